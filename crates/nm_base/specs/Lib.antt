@@ -1,0 +1,6 @@
+pub mod Word
+pub mod Channels
+pub mod Message
+pub mod Fitting
+pub mod Scripts
+pub mod formers
