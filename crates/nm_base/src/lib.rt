@@ -23,3 +23,6 @@ pub use letter::{AcceptNote, Letter, LetterId, ProcNo, Stamp};
 pub use list::List;
 pub use memory::WantOfMemory;
 pub use operator::{BinaryOp, Ctype, UnaryOp};
+
+#[cfg(test)]
+mod tests;
