@@ -1,0 +1,16 @@
+pub mod Events
+pub mod Kept
+pub mod Runs
+pub mod Order
+pub mod Races
+pub mod Clocks
+pub mod Traces
+pub mod Turns
+pub mod Rules
+pub mod Witnesses
+pub mod Sameness
+pub mod Cuts
+pub mod Needs
+pub mod Laws
+pub mod Example
+pub mod Worked

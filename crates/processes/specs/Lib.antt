@@ -1,0 +1,4 @@
+pub mod Standing
+pub mod Seats
+pub mod Listed
+pub mod ListedFacts
