@@ -62,15 +62,11 @@ fn memory_files(rt: HostRuntime) -> Result<(), Fail> {
 }
 
 #[test]
-fn memory_failures(rt: HostRuntime) -> Result<(), Fail> {
+fn failing_fetch_and_begin(rt: HostRuntime) -> Result<(), Fail> {
     let alloc = rt.alloc();
     let fails = [
         fail(CabinetCall::Fetch, 2, 0),
         fail(CabinetCall::Begin, 1, 0),
-        fail(CabinetCall::Append, 2, 1),
-        fail(CabinetCall::Append, 2, 9),
-        fail(CabinetCall::Append, 3, 9),
-        fail(CabinetCall::Close, 1, 0),
     ];
     let mut files = cabinet(alloc, &fails)?;
     assert_eq!(rt; fetched(alloc, &mut files, "A", 9)?.as_str(), "first");
@@ -79,12 +75,33 @@ fn memory_failures(rt: HostRuntime) -> Result<(), Fail> {
     assert_eq!(rt; files.begin(alloc, "B"), Err(BeginFault::Failed));
     assert!(rt; files.file("B").is_none());
     assert_eq!(rt; files.begin(alloc, "B"), Ok(()));
+    Ok(())
+}
+
+#[test]
+fn failing_append(rt: HostRuntime) -> Result<(), Fail> {
+    let alloc = rt.alloc();
+    let fails = [
+        fail(CabinetCall::Append, 2, 1),
+        fail(CabinetCall::Append, 2, 9),
+        fail(CabinetCall::Append, 3, 9),
+    ];
+    let mut files = cabinet(alloc, &fails)?;
+    assert_eq!(rt; files.begin(alloc, "B"), Ok(()));
     assert_eq!(rt; files.append(b"ab"), Ok(()));
     assert_eq!(rt; files.append(b"cd"), Err(Failed), "the first entry counts");
-    assert!(rt; files.file("B") == Some(b"abc".as_slice()));
     assert_eq!(rt; files.append(b"de"), Err(Failed));
-    assert_eq!(rt; files.close(), Err(Failed));
     assert!(rt; files.file("B") == Some(b"abcde".as_slice()));
+    Ok(())
+}
+
+#[test]
+fn failing_close(rt: HostRuntime) -> Result<(), Fail> {
+    let alloc = rt.alloc();
+    let mut files = cabinet(alloc, &[fail(CabinetCall::Close, 1, 0)])?;
+    assert_eq!(rt; files.begin(alloc, "B"), Ok(()));
+    assert_eq!(rt; files.close(), Err(Failed));
+    assert!(rt; files.file("B") == Some(b"".as_slice()));
     Ok(())
 }
 
