@@ -1,8 +1,8 @@
 //! The seats of a world.
 
-ghost use Rattle.std.specs.Prelude.{◌≡◌, ℕ, ◌<◌, ◌≤◌, length, Some, slice_get, map, IfOk, OnErr};
+ghost use Rattle.std.specs.Prelude.{◌≡◌, ℕ, ◌<◌, ◌≤◌, [], ◌∷◌, ◌++◌, length, Some, slice_get, map, IfOk, OnErr};
 ghost use Rattle.std.specs.Vec.{vec_len, vec_capacity};
-ghost use Rattle.std.specs.List.{insert};
+ghost use Rattle.std.specs.List.{swap};
 ghost use Rattle.processes.specs.declared.proc.Look.{Look};
 ghost use Rattle.processes.specs.Standing.{Makes, Takes, Stays, CanTake, letter_made, accepting};
 ghost use Rattle.nm_base.specs.Message.{message_of};
@@ -49,7 +49,8 @@ impl<P: Proc> Seats<P> {
         &self.seats[i]
     }
 
-    /// Makes the next event of the process at the place.
+    /// Makes the next event of the process at the place. Its seat is moved out for that, and the
+    /// last one stands in for it: no other seat is moved.
     pub(crate) fn step(
         &mut self,
         alloc: Global,
@@ -61,7 +62,7 @@ impl<P: Proc> Seats<P> {
         ensures made { IfOk result (λ r. MadeAt P.stands_for P.name_of self.old self.new i r.0 r.1) }
         ensures refused { OnErr result (StayedAt P.stands_for P.name_of self.old self.new i) }
     {
-        let seat = self.seats.remove(i);
+        let seat = self.seats.swap_remove(i);
         let (seat, made) = step_seat(seat, alloc);
         put_back(&mut self.seats, i, seat);
         made
@@ -75,25 +76,28 @@ impl<P: Proc> Seats<P> {
         ensures took { TookAt P.stands_for P.name_of self.old self.new i letter }
         ensures kind { (x : P) → slice_get self.old i ≡ Some x → result ≡ accepting (P.look_of x) letter }
     {
-        let seat = self.seats.remove(i);
+        let seat = self.seats.swap_remove(i);
         let (seat, kind) = give_seat(seat, letter);
         put_back(&mut self.seats, i, seat);
         kind
     }
 }
 
-/// Puts a seat back where one was removed.
+/// Puts a seat back at the place where one was taken out, and the one that stood in for it back to
+/// the end.
 fn put_back<P: Proc>(seats: &mut Vec<Seat<P>>, i: usize, seat: Seat<P>)
     requires place { i ≤ vec_len seats.old }
     requires room { vec_len seats.old < vec_capacity seats.old }
-    ensures { seats.new.items ≡ insert seats.old.items i seat }
+    ensures { seats.new.items ≡ swap (seats.old.items ++ seat ∷ []) i (vec_len seats.old) }
 {
-    match seats.insert(i, seat) {
-        Ok(()) => {}
+    let last = seats.len();
+    match seats.push(seat) {
+        Ok(()) => seats.swap(i, last),
         Err(_) => unreachable!(),
     }
 }
 
+/// The seat after the next event of its process, with the event and its letter.
 fn step_seat<P: Proc>(
     seat: Seat<P>,
     alloc: Global,
@@ -116,6 +120,7 @@ fn step_seat<P: Proc>(
     }
 }
 
+/// The seat after its process accepted the letter, and this event.
 fn give_seat<P: Proc>(seat: Seat<P>, letter: Letter) -> (Seat<P>, Kind)
     requires waiting { CanTake (P.look_of (process_in seat)) letter }
     requires room { P.count_of (process_in seat) < 1000000 }
