@@ -1,5 +1,5 @@
 -- What a name stands for in a state of a process, and what is seen of it.
-use Rattle.std.specs.Prelude.{ℕ, zero, suc, ◌+◌, Bool, true, false, nat_lt, if◌then◌else◌, List, [], ◌∷◌, Option, Some, None, slice_get, slice_index}
+use Rattle.std.specs.Prelude.{ℕ, ◌+◌, nat_lt, if◌then◌else◌, List, [], ◌∷◌, Option, Some, None, slice_get, slice_index}
 use Rattle.std.specs.Str.{bytes_eq}
 use Rattle.nm_base.specs.declared.operator.Ctype.{Ctype}
 use Rattle.c_tree.specs.declared.program.Global.{Global}
