@@ -1,21 +1,19 @@
 -- The histories of a script of a process are what it plays, and they keep the laws of scripts.
-use Rattle.std.proofs.Common.{◌≡◌, ℕ, zero, suc, ◌+◌, ◌<◌, ◌≤◌, Bool, true, false, List, [], ◌∷◌, ◌++◌, length, map, reverse, Option, Some, None, inl, inr, refl, sym, ap, ◌∙◌, subst, arith, add-one, append_assoc}
-use Rattle.std.specs.Prelude.{◌||◌, cond, filter, filter_map, Contains, slice_get, slice_index_or}
+use Rattle.std.proofs.Common.{◌≡◌, ℕ, zero, suc, ◌+◌, ◌<◌, Bool, true, false, List, [], ◌∷◌, ◌++◌, length, map, reverse, inl, inr, refl, sym, ap, ◌∙◌, subst, arith, add-one}
+use Rattle.std.specs.Prelude.{◌||◌, cond, filter, filter_map, slice_index_or}
 use Rattle.std.specs.List.{list_any}
 use Rattle.std.proofs.lemmas.List.{reverse-append, reverse-reverse, length-append, append-nil, map-append}
 use Rattle.std.proofs.lemmas.List.Elements.{filter_map-append}
 use Rattle.std.proofs.lemmas.List.Folds.{list_any-append}
-use Rattle.nm_base.specs.declared.letter.ProcNo.{ProcNo}
-use Rattle.nm_base.specs.declared.letter.LetterId.{LetterId}
 use Rattle.nm_base.specs.declared.kind.Kind.{Kind}
 use Rattle.nm_base.specs.declared.kind.Kind.TheVariants.{Sent, Accepted}
-use Rattle.nm_base.specs.Fitting.{EachFits, none, more}
+use Rattle.nm_base.specs.Fitting.{none, more}
 use Rattle.nm_base.specs.Message.{Message}
 use Rattle.nm_base.specs.Scripts.{Next, Goes, Script, Step, Made, Took, kind_in, message_in, next_after, StepFits, IsHistory, is_send, is_last, IsLawful}
 use Rattle.nm_base.specs.Scripts as scripts
-use Rattle.c_tree.specs.State.{State, Status, Able, Wants, Over, Outcome, Done, Stopped}
-use Rattle.c_tree.specs.Law.{HistoriesArePlayed, ScriptsAreLawful}
-use Rattle.c_tree.specs.Play.{Setting, setting_of, Played, played_of, next_made, next_by, next, script_in, first_state, run_of, play}
+use Rattle.c_tree.specs.State.{State, Able, Wants, Over, Outcome, Done, Stopped}
+use Rattle.c_tree.specs.Law.{AbleGoesOn, HistoriesArePlayed, ScriptsAreLawful}
+use Rattle.c_tree.specs.Play.{Setting, setting_of, Played, played_of, next_made, next_by, next, script_in, run_of, play}
 use Rattle.c_tree.proofs.Longer.{state_of, sends_in, Counted, CountedAfter, Fits, Extends, Went}
 use Rattle.c_tree.proofs.Plays.{played_events, played_state, run_leads, run_counts, run_extends}
 
@@ -133,6 +131,20 @@ wants_by set k m later (Stopped (Wants channels) s) o' e (inr (short, t)) i n l 
       inputs = ends_empty t.since.took (state_of o').inputs (no_more ∙ t.since.inputs);
     }
 
+goes_first : (first : Kind) (made kinds : List Kind) (events : List Kind) → events ≡ made ++ first ∷ kinds → (kind : Kind) × (next_made events ≡ Goes kind)
+goes_first first [] kinds events e = (first, ap next_made e)
+goes_first first (x ∷ xs) kinds events e = (x, ap next_made e)
+
+able_by : (o o' : Outcome ℕ) → (played_of o).status ≡ Able → Extends 1 [] o o' → (kind : Kind) × (next_by (played_of o).status (played_of o') ≡ Goes kind)
+able_by (Done v s) o' e x = cc
+able_by (Stopped Over s) o' e x = cc
+able_by (Stopped (Wants set) s) o' e x = cc
+able_by (Stopped Able s) o' e (inl x) = absurd (omega (arith, x.1))
+able_by (Stopped Able s) o' e (inr x) =
+    let w = x.1 in
+    let goes = goes_first w.first w.since.made s.events (state_of o').events w.since.events in
+    (goes.0, ap (λ t. next_made t.events) (played_state o') ∙ goes.1)
+
 over_by : (later : Played) (o : Outcome ℕ) → CountedAfter o → list_any is_last (state_of o).events ≡ true → next_by (played_of o).status later ≡ scripts.Over
 over_by later (Done v s) c l = refl
 over_by later (Stopped Over s) c l = refl
@@ -234,6 +246,11 @@ histories_are_played set h hs =
     let o = run_of set (taken set h) (length h) in
     let st = history_stands set hs in
     played_events o ∙ ap reverse st.events ∙ reverse-reverse (map kind_in h)
+
+pub able_goes_on : AbleGoesOn
+able_goes_on set inputs k e =
+    let x = subst (λ ls. Extends 1 [] (run_of set inputs k) (run_of set ls (suc k))) (append-nil inputs) (extended set inputs [] k) in
+    able_by (run_of set inputs k) (run_of set inputs (suc k)) e x
 
 pub scripts_are_lawful : ScriptsAreLawful
 scripts_are_lawful program count me = lawful (setting_of program count me)

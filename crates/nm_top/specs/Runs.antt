@@ -8,7 +8,7 @@ use Rattle.nm_base.specs.declared.kind.Kind.TheVariants.{Accepted}
 use Rattle.nm_base.specs.declared.letter.LetterId.{LetterId}
 use Rattle.nm_base.specs.Channels.{has_channel}
 use Rattle.nm_base.specs.Message.{Message, same_name}
-use Rattle.nm_base.specs.Scripts.{Next, Goes, Wants, Over, Script, message_sent}
+use Rattle.nm_base.specs.Scripts.{Next, Goes, Wants, Over, message_sent}
 use Rattle.c_tree.specs.declared.thin.Statement.{Statement}
 use Rattle.c_tree.specs.ThinMeaning.{script_of}
 

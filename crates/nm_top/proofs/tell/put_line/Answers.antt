@@ -1,4 +1,4 @@
-use Rattle.std.proofs.Common.{◌++◌, List, ℕ, codes, subst}
+use Rattle.std.proofs.Common.{List, ℕ, codes, subst}
 use Rattle.std.proofs.lemmas.Result.{on_err_weaker}
 use Rattle.std.specs.Io.KnownBytes.{Appends}
 use Rattle.nm_outside.specs.Files.{AppendsPart}

@@ -1,0 +1,3 @@
+pub mod GeneratorFacts
+pub mod TextFacts
+mod Rows
