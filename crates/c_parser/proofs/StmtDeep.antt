@@ -297,9 +297,11 @@ pub stmt_deeps : (limit : ℕ) (ts : List Token) → Deeps (limit ≤ nesting ts
 unfolding read_stmt stmt
 stmt_deeps zero ts = record { of = λ e. omega arith }
 stmt_deeps (suc below) [] = deeps_wrong (suc below ≤ nesting [] + 1)
-stmt_deeps (suc below) (t ∷ ts) = record { of = λ e.
-    let d = (nested below (nesting (t ∷ ts)) (λ us le. record { of = λ h. let f = (stmt_deeps below us).of h in omega (arith, f, le) }) t.kind t ts refl (omega arith)).of e in
-    omega (arith, d) }
+stmt_deeps (suc below) (t ∷ ts) = record {
+  of = λ e.
+      let d = (nested below (nesting (t ∷ ts)) (λ us le. record { of = λ h. let f = (stmt_deeps below us).of h in omega (arith, f, le) }) t.kind t ts refl (omega arith)).of e in
+      omega (arith, d);
+}
 
 -- ---- items
 
@@ -339,8 +341,10 @@ module _ (most : ℕ) where
       (deeps_if Q (params_named h.params) _ (Err Wrong) (λ names. deeps_expect Q m.LeftBrace ts _ (λ us e.
       let f = (moves_mark m.LeftBrace refl).nests ts us e in
       deeps_bind Q (block 63 (read_stmt 63) (line_at ts) us) _
-      (record { of = λ d.
-        let b = (block_deeps 63 (nesting ts) (λ vs lt. record { of = λ g. let s = (stmt_deeps 63 vs).of g in omega (arith, s, lt) }) (line_at ts) us (omega (arith, f))).of d in omega (arith, b, le) })
+      (record {
+        of = λ d.
+            let b = (block_deeps 63 (nesting ts) (λ vs lt. record { of = λ g. let s = (stmt_deeps 63 vs).of g in omega (arith, s, lt) }) (line_at ts) us (omega (arith, f))).of d in omega (arith, b, le);
+      })
       (λ x r. deeps_ok Q _))) (λ _. deeps_wrong Q))
       (λ rest e. deeps_ok Q _)
 

@@ -474,12 +474,14 @@ module _ (below : ℕ) (lower : Reader (Stmt × ℕ)) (full : Full stmt_shape be
 
   arm_full : Full arm_shape below ArmStop (arm below lower)
   unfolding arm_shape
-  arm_full = record { of = λ x ts rest walks fits low stop.
-      let form = arm_step (record { labels = x.labels; list = map stmt_part x.list }) in
-      let law = part-Arm x in
-      let h = ap (λ (p : ArmPart). p.height) law in
-      arm_reads x ts rest (subst (λ (p : ArmPart). p.walk ts ≡ Some rest) law walks) (ap (λ (p : ArmPart). p.fits) (sym law) ∙ fits) (subst (λ (n : ℕ). n ≤ below) h low) stop
-      ∙ ap (λ (n : ℕ). Ok ((x, n), rest)) (sym h) }
+  arm_full = record {
+    of = λ x ts rest walks fits low stop.
+        let form = arm_step (record { labels = x.labels; list = map stmt_part x.list }) in
+        let law = part-Arm x in
+        let h = ap (λ (p : ArmPart). p.height) law in
+        arm_reads x ts rest (subst (λ (p : ArmPart). p.walk ts ≡ Some rest) law walks) (ap (λ (p : ArmPart). p.fits) (sym law) ∙ fits) (subst (λ (n : ℕ). n ≤ below) h low) stop
+        ∙ ap (λ (n : ℕ). Ok ((x, n), rest)) (sym h);
+  }
 
   arm_labels : (x : Arm) (ts rest : List Token) → (arm_part x).walk ts ≡ Some rest → (arm_part x).fits ≡ true → begins_label ts ≡ true
   arm_labels x ts rest walks fits =

@@ -82,7 +82,6 @@ expr_begins level x t ts rest le walk fits stops =
     from true e r = refl
     from false e r = absurd ((read_never (part_of x).height level t ts e).of (r.operand, rest) r.found)
 
-
 -- ---- lists
 
 -- what is read of an item that derives the tokens, where it may stop there
@@ -220,12 +219,14 @@ After level x ts = level < follow ts
 
 declarator_full : (limit : ℕ) → Full declr_shape limit (After 13) (declarator limit)
 unfolding declarator declr_shape
-declarator_full limit = record { of = λ d ts rest walks fits low stops.
-    let a = on_then d.line (named d.name >> tree.declr_end d.size d.start) ts rest walks in
-    let b = then_some (named d.name) (tree.declr_end d.size d.start) ts rest a.1 in
-    bind_to (expect_name ts) _ (d.name, b.0) _ (ap found (name_found d.name ts b.0 b.1))
-    (bind_to (declr_end limit b.0) _ (((d.size, d.start), declr_height d), rest) _ (declr_end_full limit d.size d.start b.0 rest b.2 fits low stops)
-    (ap (λ (n : ℕ). Ok ((record { name = d.name; size = d.size; start = d.start; line = n }, declr_height d), rest)) a.0)) }
+declarator_full limit = record {
+  of = λ d ts rest walks fits low stops.
+      let a = on_then d.line (named d.name >> tree.declr_end d.size d.start) ts rest walks in
+      let b = then_some (named d.name) (tree.declr_end d.size d.start) ts rest a.1 in
+      bind_to (expect_name ts) _ (d.name, b.0) _ (ap found (name_found d.name ts b.0 b.1))
+      (bind_to (declr_end limit b.0) _ (((d.size, d.start), declr_height d), rest) _ (declr_end_full limit d.size d.start b.0 rest b.2 fits low stops)
+      (ap (λ (n : ℕ). Ok ((record { name = d.name; size = d.size; start = d.start; line = n }, declr_height d), rest)) a.0));
+}
 
 mark_stops : {A : Type 0} (n : Mark) (level : ℕ) (x : A) (ts us : List Token) → level < mark_level n → mark n ts ≡ Some us → After level x ts
 mark_stops n level x ts us lt e = let f = follow_mark n ts us e in omega (arith, lt, f)
@@ -248,9 +249,11 @@ Anywhere x ts = Unit {0}
 
 local_full : (limit : ℕ) → Full vars_shape limit Anywhere (local limit)
 unfolding local vars_shape
-local_full limit = record { of = λ v ts rest walks fits low stops.
-    let a = then_some (type_walk v.of) (listed declr_walk v.list >> mark m.Semicolon) ts rest walks in
-    found_to (type_at ts) (Err Wrong) _ (v.of, a.0) _ (type_found v.of ts a.0 a.1) (declarations_full limit v a.0 rest a.2 fits low) }
+local_full limit = record {
+  of = λ v ts rest walks fits low stops.
+      let a = then_some (type_walk v.of) (listed declr_walk v.list >> mark m.Semicolon) ts rest walks in
+      found_to (type_at ts) (Err Wrong) _ (v.of, a.0) _ (type_found v.of ts a.0 a.1) (declarations_full limit v a.0 rest a.2 fits low);
+}
 
 typed : (ts : List Token) (x : Ctype × List Token) → type_at ts ≡ Some x → no_type ts ≡ None
 typed ts x e = ap (λ (o : Option (Ctype × List Token)). if is_some o then None else Some ts) e
@@ -326,9 +329,12 @@ optional_full limit level end (Some x) v ts rest le ends not walks fits low =
     let b = then_some (mark end) v a.0 rest a.2 in
     let f = follow_mark end a.0 b.0 b.1 in
     let stops : level < follow a.0 = omega (arith, f, ends, le) in
-    let r = reads limit level x ts a.0 le a.1 fits low stops in
-    (b.0, none_to (mark end ts) _ _ _ (no_begin end level x ts a.0 le not a.1 fits stops) (bind_to (read_expr limit level ts) _ (r.operand, a.0) _ r.found
-        (expect_to end a.0 b.0 _ _ b.1 (ap (λ (y : Expr). Ok ((Some y, r.operand.height), b.0)) r.is ∙ ap (λ (n : ℕ). Ok ((Some x, n), b.0)) r.high))), b.2)
+    let r = reads limit level x ts a.0 le a.1 fits low stops in (
+      b.0,
+      none_to (mark end ts) _ _ _ (no_begin end level x ts a.0 le not a.1 fits stops) (bind_to (read_expr limit level ts) _ (r.operand, a.0) _ r.found
+          (expect_to end a.0 b.0 _ _ b.1 (ap (λ (y : Expr). Ok ((Some y, r.operand.height), b.0)) r.is ∙ ap (λ (n : ℕ). Ok ((Some x, n), b.0)) r.high))),
+      b.2,
+    )
 
 -- ---- labels
 
@@ -364,7 +370,7 @@ label_value_full limit (Some x) line t ts rest same walks fits low =
     let b = then_some (key k.Case) (part_of x).walk (t ∷ ts) a.0 a.1 in
     let h = key_first k.Case t ts b.0 b.1 in
     ap (λ o. label_by limit o t.line ts) h.0 ∙ ap (λ (n : ℕ). label_by limit (tok.Keyword k.Case) n ts) same
-        ∙ case_full limit x line ts rest (ap ((part_of x).walk >> mark m.Colon) h.1 ∙ then_walk (part_of x).walk (mark m.Colon) b.0 a.0 b.2 ∙ a.2) fits low
+    ∙ case_full limit x line ts rest (ap ((part_of x).walk >> mark m.Colon) h.1 ∙ then_walk (part_of x).walk (mark m.Colon) b.0 a.0 b.2 ∙ a.2) fits low
 
 pub not_nothing : (line : ℕ) (w : Walk) (rest : List Token) → (on line >> w) [] ≡ Some rest → ⊥
 not_nothing line w rest e = cc

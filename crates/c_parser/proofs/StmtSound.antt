@@ -168,12 +168,14 @@ pub record Part (limit level : ℕ) (ts : List Token) (y : Operand × List Token
   pub low : y.0.height ≤ limit
 
 pub part_sound : (limit level : ℕ) (ts : List Token) → level ≤ 14 → Holds (Part limit level ts) (read_expr limit level ts)
-part_sound limit level ts le = record { of = λ y read. let h = (expr_sound limit level ts le).of y read in record {
-  walks = h.spells.walk;
-  fit = fits_is level y.0.level (part_of y.0.expr) h.spells.fits h.spells.level_is h.at;
-  high = h.spells.height_is;
-  low = h.low;
-} }
+part_sound limit level ts le = record {
+  of = λ y read. let h = (expr_sound limit level ts le).of y read in record {
+    walks = h.spells.walk;
+    fit = fits_is level y.0.level (part_of y.0.expr) h.spells.fits h.spells.level_is h.at;
+    high = h.spells.height_is;
+    low = h.low;
+  };
+}
 
 pub record Condition (limit : ℕ) (ts : List Token) (y : Operand × List Token) : Type 0 where
   pub walks : (mark m.LeftParen >> (part_of y.0.expr).walk >> mark m.RightParen) ts ≡ Some y.1
@@ -726,7 +728,7 @@ module _ (below : ℕ) (lower : Reader (Stmt × ℕ)) (sound : (ts : List Token)
             (both (not (is_empty (map stmt_part y.0.0))) _ (ap not (stmts_empty y.0.0 ∙ b.1)) (stmts_fit y.0.0 ∙ b.0.fit));
         high = let h = stmts_high y.0.0 in omega (arith, h, a.0.high, b.0.high);
         low = omega (arith, a.0.low, b.0.low);
-      }) )))
+      }))))
 
   switched_sound : (t : Token) (ts : List Token) → t.kind ≡ tok.Keyword k.Switch → Holds (IsStmt (suc below) (t ∷ ts)) (switched below lower t.line ts)
   unfolding switched arms arm_shape

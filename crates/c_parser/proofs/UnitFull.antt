@@ -172,9 +172,11 @@ parameter_by p (Some name) ts us rest is begins walks fits low stop =
 
 parameter_full : Full param_shape 64 ParamEnd parameter
 unfolding param_shape
-parameter_full = record { of = λ p ts rest walks fits low stop.
-    let a = then_some (param_begin p.of p.name p.line) (array_walk p.array p.size) ts rest walks in
-    parameter_by p p.name ts a.0 rest refl a.1 a.2 fits low stop }
+parameter_full = record {
+  of = λ p ts rest walks fits low stop.
+      let a = then_some (param_begin p.of p.name p.line) (array_walk p.array p.size) ts rest walks in
+      parameter_by p p.name ts a.0 rest refl a.1 a.2 fits low stop;
+}
 
 ends_param : (n : Mark) (p : Param) (ts us : List Token) → 13 < mark_level n → mark n ts ≡ Some us → ParamEnd p ts
 ends_param n p ts us lt e = record { follows = let f = follow_mark n ts us e in omega (arith, f, lt); no_name = marked_no_name n ts us e }
@@ -316,8 +318,8 @@ unfolding headed body_of
 function_headed h body us rest names is walks fits low =
     let b = block_view body (view body) us rest is walks fits low in
     none_to (mark m.Semicolon us) _ _ _ (none_of (mark m.Semicolon us) (λ vs e.
-      let p = marked m.LeftBrace us b.0 b.1 in let q = first_of m.Semicolon p.token b.0 vs (ap (mark m.Semicolon) (sym p.tokens) ∙ e) in
-      let bad : tok.Mark m.LeftBrace ≡ tok.Mark m.Semicolon = sym p.kind ∙ q in cc))
+    let p = marked m.LeftBrace us b.0 b.1 in let q = first_of m.Semicolon p.token b.0 vs (ap (mark m.Semicolon) (sym p.tokens) ∙ e) in
+    let bad : tok.Mark m.LeftBrace ≡ tok.Mark m.Semicolon = sym p.kind ∙ q in cc))
     (ap (λ (c : Bool). if c then (expect m.LeftBrace us >>= λ begun. block 63 (read_stmt 63) (line_at us) begun >>= λ body. Ok ((i.Function h body.0.0, max (head_height h) body.0.1), body.1)) else Err Wrong) names
     ∙ expect_to m.LeftBrace us b.0 _ _ b.1 (bind_to (block 63 (read_stmt 63) (line_at us) b.0) _ ((body, (stmt_part body).height), rest) _ b.2 refl))
 

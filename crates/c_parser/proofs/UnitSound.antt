@@ -126,12 +126,14 @@ parameters_sound ts =
     let P = Params ts in
     holds_found P (key k.Void ts) _ _
     (holds_found P (mark m.RightParen ts) _ _
-    (record { of = λ y read. let c = (separated_sound param_shape 64 parameter parameter_sound is_separator m.RightParen separator_is (length ts + 1) ts).of y read in record {
-      walks = then_walk (params_walk y.0.0) (mark m.RightParen) ts c.last (params_listed y.0.0 ts c.last c.walks) ∙ c.close;
-      fit = c.fit;
-      high = c.high;
-      low = c.low;
-    } })
+    (record {
+      of = λ y read. let c = (separated_sound param_shape 64 parameter parameter_sound is_separator m.RightParen separator_is (length ts + 1) ts).of y read in record {
+        walks = then_walk (params_walk y.0.0) (mark m.RightParen) ts c.last (params_listed y.0.0 ts c.last c.walks) ∙ c.close;
+        fit = c.fit;
+        high = c.high;
+        low = c.low;
+      };
+    })
     (λ rest close. holds_ok P (([], 0), rest) (record { walks = then_walk past_void (mark m.RightParen) ts ts (mark_walk m.RightParen ts rest close) ∙ close; fit = refl; high = refl; low = omega arith })))
     (λ us void.
     holds_expect P m.RightParen us _ (λ rest close.
@@ -158,10 +160,12 @@ body_sound h high start us walk fits is low names =
     let b = marked m.LeftBrace us begun brace in
     let line : line_at us ≡ b.token.line = ap line_at b.tokens in
     holds_bind P (λ y. IsStmt 64 us y × ((stmt_part y.0.0).is_block ≡ true)) (block 63 (read_stmt 63) (line_at us) begun) _
-    (record { of = λ y read.
-      let read' : block 63 (read_stmt 63) b.token.line begun ≡ Ok y = ap (λ (n : ℕ). block 63 (read_stmt 63) n begun) (sym line) ∙ read in
-      let s = (block_sound 63 (read_stmt 63) (stmt_sound 63) b.token begun b.kind).of y read' in
-      (subst (λ (ts : List Token). IsStmt 64 ts y) (sym b.tokens) s, (block_is 63 b.token.line (read_stmt 63) begun).of y read') })
+    (record {
+      of = λ y read.
+          let read' : block 63 (read_stmt 63) b.token.line begun ≡ Ok y = ap (λ (n : ℕ). block 63 (read_stmt 63) n begun) (sym line) ∙ read in
+          let s = (block_sound 63 (read_stmt 63) (stmt_sound 63) b.token begun b.kind).of y read' in
+          (subst (λ (ts : List Token). IsStmt 64 ts y) (sym b.tokens) s, (block_is 63 b.token.line (read_stmt 63) begun).of y read');
+    })
     (λ y s.
     holds_ok P ((i.Function h y.0.0, max high y.0.1), y.1) (record {
       walks = then_walk (head_walk h) (stmt_part y.0.0).walk start us walk ∙ s.0.walks;
@@ -193,8 +197,8 @@ function_sound of name start ts us vs result line is paren =
     let w = params_walk x.0.0 >> mark m.RightParen in
     headed_sound h x.0.1 start x.1
     (then_walk (result_walk of) (on (line_at ts) >> named name >> mark m.LeftParen >> w) start ts result
-      ∙ then_walk (on (line_at ts)) (named name >> mark m.LeftParen >> w) ts ts line
-      ∙ then_walk (named name) (mark m.LeftParen >> w) ts us is ∙ then_walk (mark m.LeftParen) w us vs paren ∙ p.walks)
+    ∙ then_walk (on (line_at ts)) (named name >> mark m.LeftParen >> w) ts ts line
+    ∙ then_walk (named name) (mark m.LeftParen >> w) ts us is ∙ then_walk (mark m.LeftParen) w us vs paren ∙ p.walks)
     p.fit p.high p.low)
 
 vars_of_sound : (of : Option Ctype) (start ts : List Token) → result_walk of start ≡ Some ts → Holds (Is item_shape 64 start) (vars_of of ts)
@@ -232,9 +236,11 @@ ended (t ∷ us) vs e = cc
 -- what is read is a unit
 pub unit_sound : (ts : List Token) → Holds (λ y. UnitOf ts (tree_of y)) (read_items ts)
 unfolding read_items item_shape
-unit_sound ts = record { of = λ y read.
-    let u = (repeated_sound item_shape 64 read_item item_sound at_end (length ts + 1) ts).of y read in
-    record {
-      derives = record { walk = u.walks ∙ ap Some (ended u.last y.1 u.stop); fits = u.fit };
-      low = le-leb (highest item_height y.0.0) 64 (omega (arith, u.high, u.low));
-    } }
+unit_sound ts = record {
+  of = λ y read.
+      let u = (repeated_sound item_shape 64 read_item item_sound at_end (length ts + 1) ts).of y read in
+      record {
+        derives = record { walk = u.walks ∙ ap Some (ended u.last y.1 u.stop); fits = u.fit };
+        low = le-leb (highest item_height y.0.0) 64 (omega (arith, u.high, u.low));
+      };
+}

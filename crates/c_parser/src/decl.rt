@@ -44,7 +44,11 @@ pub fn type_at(tokens: &[Token]) -> Option<(Ctype, &[Token])>
 
 /// `size` and `]`, after a declarator's name and `[`.
 #[tactic(auto, unfolding(crate::specs::ReadStmt::size_of))]
-fn size_of(alloc: Global, tokens: &[Token], limit: u8) -> Result<(Boxed<Expr>, u8, &[Token]), Refusal>
+fn size_of(
+    alloc: Global,
+    tokens: &[Token],
+    limit: u8,
+) -> Result<(Boxed<Expr>, u8, &[Token]), Refusal>
     ensures value { Gives (λ x. (((Some x.0, None), x.1), x.2.now)) result (spec.size_of limit tokens.now) }
     ensures height { IfOk result (λ x. x.1 ≤ limit) }
     ensures shorter { IfOk result (λ x. length x.2.now < length tokens.now) }

@@ -202,7 +202,11 @@ fn run_node(alloc: Global, part: Boxed<Expr>, line: u32) -> Result<Boxed<Stmt>, 
 
 /// What follows `break`.
 #[tactic(auto, unfolding(crate::specs::ReadStmt::leaf))]
-fn breaks(alloc: Global, tokens: &[Token], line: u32) -> Result<(Boxed<Stmt>, u8, &[Token]), Refusal>
+fn breaks(
+    alloc: Global,
+    tokens: &[Token],
+    line: u32,
+) -> Result<(Boxed<Stmt>, u8, &[Token]), Refusal>
     ensures value { Gives (λ x. ((x.0, x.1), x.2.now)) result (spec.leaf (made.Break line) tokens.now) }
     ensures height { IfOk result (λ x. x.1 ≡ 1) }
     ensures shorter { IfOk result (λ x. length x.2.now < length tokens.now) }
@@ -214,7 +218,11 @@ fn breaks(alloc: Global, tokens: &[Token], line: u32) -> Result<(Boxed<Stmt>, u8
 
 /// What follows `continue`.
 #[tactic(auto, unfolding(crate::specs::ReadStmt::leaf))]
-fn continues(alloc: Global, tokens: &[Token], line: u32) -> Result<(Boxed<Stmt>, u8, &[Token]), Refusal>
+fn continues(
+    alloc: Global,
+    tokens: &[Token],
+    line: u32,
+) -> Result<(Boxed<Stmt>, u8, &[Token]), Refusal>
     ensures value { Gives (λ x. ((x.0, x.1), x.2.now)) result (spec.leaf (made.Continue line) tokens.now) }
     ensures height { IfOk result (λ x. x.1 ≡ 1) }
     ensures shorter { IfOk result (λ x. length x.2.now < length tokens.now) }
@@ -319,11 +327,7 @@ fn label(alloc: Global, tokens: &[Token], limit: u8) -> Result<(Label, u8, &[Tok
 }
 
 /// Labels up to where none comes next, and the greatest height.
-fn labels(
-    alloc: Global,
-    tokens: &[Token],
-    limit: u8,
-) -> Result<(Vec<Label>, u8, &[Token]), Refusal>
+fn labels(alloc: Global, tokens: &[Token], limit: u8) -> Result<(Vec<Label>, u8, &[Token]), Refusal>
     ensures value { Gives (λ x. ((x.0.items, x.1), x.2.now)) result
         (spec.repeated spec.no_label (spec.label limit) (length tokens.now + 1) tokens.now) }
     ensures height { IfOk result (λ x. x.1 ≤ limit) }
@@ -599,11 +603,7 @@ fn statements(
 
 /// Arms up to the closing brace, and the greatest height.
 #[cycle(stmt)]
-fn arms(
-    alloc: Global,
-    tokens: &[Token],
-    below: u8,
-) -> Result<(Vec<Arm>, u8, &[Token]), Refusal>
+fn arms(alloc: Global, tokens: &[Token], below: u8) -> Result<(Vec<Arm>, u8, &[Token]), Refusal>
     requires { below < 255 }
     ensures value { Gives (λ x. ((x.0.items, x.1), x.2.now)) result (spec.arms below (spec.read_stmt below) tokens.now) }
     ensures height { IfOk result (λ x. x.1 ≤ below) }

@@ -80,10 +80,7 @@ fn parameter(alloc: Global, tokens: &[Token]) -> Result<(Param, u8, &[Token]), R
 }
 
 /// At least one parameter, up to the closing parenthesis, and the greatest height.
-fn some_parameters(
-    alloc: Global,
-    tokens: &[Token],
-) -> Result<(Vec<Param>, u8, &[Token]), Refusal>
+fn some_parameters(alloc: Global, tokens: &[Token]) -> Result<(Vec<Param>, u8, &[Token]), Refusal>
     ensures value { Gives (λ x. ((x.0.items, x.1), x.2.now)) result
         (list.separated expr.is_separator spec.parameter (length tokens.now + 1) tokens.now) }
     ensures height { IfOk result (λ x. x.1 ≤ 64) }

@@ -19,7 +19,7 @@ loop-of-preserved c =
     let all = repeated no_type (local c.args.limit) (length c.args.tokens.now + 1) c.args.tokens.now in
     let type = c.in-Some.ensures.value in
     let next = repeats_step no_type (local c.args.limit) c.loop-of.list.items c.loop-of.highest c.loop-of.rest.now all (c.in_ok-vars.vars, c.in_ok-vars.height) c.in_ok-vars.next.now (typed c.loop-of.rest.now (c.in-Some.of, c.in-Some.next.now) type)
-      (local_is c.args.limit c.loop-of.rest.now c.in-Some.next.now c.in-Some.of type ∙ c.in_ok-vars.ensures.value) (omega (arith, c.in-Some.ensures.shorter, c.in_ok-vars.ensures.shorter)) c.loop-of.invariant.rest in
+    (local_is c.args.limit c.loop-of.rest.now c.in-Some.next.now c.in-Some.of type ∙ c.in_ok-vars.ensures.value) (omega (arith, c.in-Some.ensures.shorter, c.in_ok-vars.ensures.shorter)) c.loop-of.invariant.rest in
     rw (c.in_ok-push.ensures.items, c.higher-highest.ensures) (record {
       low = omega (arith, c.in_ok-vars.ensures.height);
       shorter = omega (arith, c.in-Some.ensures.shorter, c.in_ok-vars.ensures.shorter);

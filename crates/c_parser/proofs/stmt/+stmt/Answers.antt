@@ -24,7 +24,7 @@ pub statements-loop-alloc-preserved : goal.statements-loop-alloc-preserved
 statements-loop-alloc-preserved t c =
     let all = repeated list_end (read_stmt c.args.below) (length c.args.tokens.now + 1) c.args.tokens.now in
     let next = repeats_step list_end (read_stmt c.args.below) c.loop-alloc.list.items c.loop-alloc.highest c.loop-alloc.rest.now all (c.in_ok-stmt.stmt, c.in_ok-stmt.height) c.in_ok-stmt.next.now (goes c.loop-alloc.rest.now (sym c.ends_list.ensures ∙ c.if-ends_list.false))
-      c.in_ok-stmt.ensures.value c.in_ok-stmt.ensures.shorter c.loop-alloc.invariant.rest in
+    c.in_ok-stmt.ensures.value c.in_ok-stmt.ensures.shorter c.loop-alloc.invariant.rest in
     rw (c.in_ok-push.ensures.items, c.into_inner.ensures, c.higher-highest.ensures) (record {
       low = omega (arith, c.in_ok-stmt.ensures.height);
       shorter = search (arith, c.in_ok-stmt.ensures.shorter);
@@ -51,7 +51,7 @@ arms-loop-next-preserved t c =
     let item = arm c.args.below (read_stmt c.args.below) in
     let all = repeated (after RightBrace) item (length c.args.tokens.now + 1) c.args.tokens.now in
     let next = repeats_step (after RightBrace) item c.loop-next.list.items c.loop-next.highest c.loop-next.rest.now all (c.in_ok-arm.arm, c.in_ok-arm.height) c.in_ok-arm.next.now c.in_default.ensures.value
-      c.in_ok-arm.ensures.value c.in_ok-arm.ensures.shorter c.loop-next.invariant.rest in
+    c.in_ok-arm.ensures.value c.in_ok-arm.ensures.shorter c.loop-next.invariant.rest in
     rw (c.in_ok-push.ensures.items, c.higher-highest.ensures) (record {
       low = omega (arith, c.in_ok-arm.ensures.height);
       shorter = omega (arith, c.in_ok-arm.ensures.shorter);

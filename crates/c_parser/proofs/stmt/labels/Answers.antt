@@ -15,7 +15,7 @@ pub loop-alloc-preserved : goal.loop-alloc-preserved
 loop-alloc-preserved c =
     let all = repeated no_label (label c.args.limit) (length c.args.tokens.now + 1) c.args.tokens.now in
     let next = repeats_step no_label (label c.args.limit) c.loop-alloc.list.items c.loop-alloc.highest c.loop-alloc.rest.now all (c.in_ok-label.label, c.in_ok-label.height) c.in_ok-label.next.now (labelled c.loop-alloc.rest.now (sym c.begins_label.ensures ∙ c.loop-alloc-test.true))
-      c.in_ok-label.ensures.value c.in_ok-label.ensures.shorter c.loop-alloc.invariant.rest in
+    c.in_ok-label.ensures.value c.in_ok-label.ensures.shorter c.loop-alloc.invariant.rest in
     rw (c.in_ok-push.ensures.items, c.higher-highest.ensures) (record {
       low = omega (arith, c.in_ok-label.ensures.height);
       shorter = search (arith, c.in_ok-label.ensures.shorter);

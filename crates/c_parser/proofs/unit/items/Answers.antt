@@ -17,7 +17,7 @@ pub loop-rest-preserved : goal.loop-rest-preserved
 loop-rest-preserved c =
     let all = repeated at_end read_item (length c.args.tokens.now + 1) c.args.tokens.now in
     let next = repeats_step at_end read_item c.loop-rest.list.items c.loop-rest.highest c.loop-rest.rest.now all (c.in_ok-item.item, c.in_ok-item.height) c.in_ok-item.next.now (more_left c.loop-rest.rest.now (search (arith, c.loop-rest-test.true)))
-      c.in_ok-item.ensures.value c.in_ok-item.ensures.shorter c.loop-rest.invariant.rest in
+    c.in_ok-item.ensures.value c.in_ok-item.ensures.shorter c.loop-rest.invariant.rest in
     rw (c.in_ok-push.ensures.items, c.higher-highest.ensures) (record {
       low = omega (arith, c.in_ok-item.ensures.height);
       shorter = omega (arith, c.in_ok-item.ensures.shorter);
