@@ -1,0 +1,26 @@
+mod Examples
+pub mod Lists
+pub mod Loops
+pub mod Laws
+pub mod Steps
+pub mod Holds
+pub mod Spells
+pub mod Sound
+pub mod View
+pub mod Shorter
+pub mod Follow
+pub mod Refused
+pub mod Complete
+pub mod Nesting
+pub mod Deep
+pub mod StmtLaws
+pub mod StmtSound
+pub mod StmtMoves
+pub mod StmtFull
+pub mod StmtForms
+pub mod UnitSound
+pub mod UnitFull
+pub mod StmtDeep
+pub mod Turns
+pub mod Answered
+pub mod FaultLines

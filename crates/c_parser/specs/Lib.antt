@@ -1,0 +1,11 @@
+pub mod Tokens
+pub mod Walk
+pub mod Expr
+pub mod Operators
+pub mod Reader
+pub mod ReadExpr
+pub mod Stmt
+pub mod Unit
+pub mod ReadStmt
+pub mod ReadUnit
+pub mod Faults
