@@ -97,7 +97,8 @@ front_on : (p c : ℕ) (ws : List Letter) → front_of (filter (is_for p c) ws) 
 front_on p c [] = refl
 front_on p c (w ∷ ws) =
     by (is_for p c w) refl (front_on p c ws) where
-      by : (b : Bool) → is_for p c w ≡ b → front_of (filter (is_for p c) ws) ≡ front_in c (filter (is_for p c) ws) → front_of (cond b (w ∷ filter (is_for p c) ws) (filter (is_for p c) ws)) ≡ front_in c (cond b (w ∷ filter (is_for p c) ws) (filter (is_for p c) ws))
+      by : (b : Bool) → is_for p c w ≡ b → front_of (filter (is_for p c) ws) ≡ front_in c (filter (is_for p c) ws)
+          → front_of (cond b (w ∷ filter (is_for p c) ws) (filter (is_for p c) ws)) ≡ front_in c (cond b (w ∷ filter (is_for p c) ws) (filter (is_for p c) ws))
       by true e h = ap {B = Option Front} (λ n. Some (record { chan = n; posted = w.posted })) (eqb-true w.chan c ((and_parts (w.dest.no == p) (w.chan == c) e).1))
       by false e h = h
 
@@ -310,7 +311,8 @@ holds_without n p given high rows ws l left h holds low few =
     let parts = and_parts (l.dest.no == p) (has_channel given c) h.fits in
     let own : is_for p c l ≡ true = and_from (l.dest.no == p) (c == c) parts.0 (eq-eqb c c refl) in
     let none = filter_fewer (is_for p c) (λ x. may_take p given (seen x)) (λ x e. named_by_front p given c x parts.1 e) h.before h.first in
-    subst (Holds n (set rows (p * 32 + l.chan) (filter (is_for p l.chan) h.after)) high) (sym h.is) (with_queue n p c high high rows ws (h.before ++ h.after) (filter (is_for p c) h.after) holds low few
+    subst (Holds n (set rows (p * 32 + l.chan) (filter (is_for p l.chan) h.after)) high) (sym h.is) (with_queue n p c high high rows ws (h.before ++ h.after) (filter (is_for p c) h.after)
+    holds low few
     (rises_without 0 high h.before h.after l (subst (Rises 0 high) h.was holds.rises))
     (all_but (λ x. x.chan < 32) h.before h.after l (subst (AllByRecursion (λ x. x.chan < 32)) h.was holds.known))
     (sym (filter-append (is_for p c) h.before h.after ∙ ap (λ (x : List Letter). x ++ filter (is_for p c) h.after) none))

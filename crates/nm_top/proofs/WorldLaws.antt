@@ -35,7 +35,8 @@ filter_seen : (t : Message → Bool) (ls : List Letter) → filter t (map seen l
 filter_seen t [] = refl
 filter_seen t (l ∷ ls) =
     ap (λ (ms : List Message). cond (t (seen l)) (seen l ∷ ms) ms) (filter_seen t ls)
-    ∙ elim (t (seen l)) as (λ b. cond b (seen l ∷ map seen (filter (λ x. t (seen x)) ls)) (map seen (filter (λ x. t (seen x)) ls)) ≡ map seen (cond b (l ∷ filter (λ x. t (seen x)) ls) (filter (λ x. t (seen x)) ls))) [
+    ∙ elim (t (seen l)) as (λ b. cond b (seen l ∷ map seen (filter (λ x. t (seen x)) ls)) (map seen (filter (λ x. t (seen x)) ls)) ≡ map seen
+    (cond b (l ∷ filter (λ x. t (seen x)) ls) (filter (λ x. t (seen x)) ls))) [
       | true ↦ refl
       | false ↦ refl
     ]
@@ -115,7 +116,8 @@ stands_plain ss events p processes waits made sends accepts old new stands low f
 
 pub stands_sends : (ss : List Statement) (events : List Event) (p dest chan word : ℕ) (processes : List Process) (waits : List Letter) (made sends accepts : ℕ) (old new : Process) (letter : Letter)
     → StandsBy ss events processes waits made sends accepts → p < length processes → made < 1000000 → old ≡ get_or processes p old → step_of ss old.events ≡ Sends dest chan word
-    → new.events ≡ min (old.events + 1) (2 ^ 64 - 1) → new.sends ≡ min (old.sends + 1) (2 ^ 32 - 1) → letter ≡ record { id = record { sender = record { no = p }; number = old.sends }; dest = record { no = dest }; chan = chan; word = word; posted = made }
+    → new.events ≡ min (old.events + 1) (2 ^ 64 - 1) → new.sends ≡ min (old.sends + 1) (2 ^ 32 - 1) → letter ≡
+    record { id = record { sender = record { no = p }; number = old.sends }; dest = record { no = dest }; chan = chan; word = word; posted = made }
     → StandsBy ss (turn ss events p) (set processes p new) (waits ++ letter ∷ []) (made + 1) (min (sends + 1) (2 ^ 64 - 1)) accepts
 stands_sends ss events p dest chan word processes waits made sends accepts old new letter stands low few is_old is more one_more is_letter =
     let at : old.events ≡ count events p = ap (λ (x : Process). x.events) is_old ∙ stands.counted p old low in
@@ -149,7 +151,8 @@ pub stands_waits : (ss : List Statement) (events : List Event) (p given : ℕ) (
 stands_waits ss events p given processes waits made sends accepts old stands low is_old is none =
     let at : old.events ≡ count events p = ap (λ (x : Process). x.events) is_old ∙ stands.counted p old low in
     let wants = coming ss events p (Waits given) (ap (step_of ss) (sym at) ∙ is) in
-    let idle : turn ss events p ≡ events = ap (goes_on events p) wants ∙ ap (accepts_first events p given) (ap (filter (may_take p given)) (sym stands.letters) ∙ filter_seen (may_take p given) waits ∙ ap (map seen) none) in
+    let idle : turn ss events p ≡ events = ap (goes_on events p) wants ∙ ap (accepts_first events p given)
+    (ap (filter (may_take p given)) (sym stands.letters) ∙ filter_seen (may_take p given) waits ∙ ap (map seen) none) in
     subst (λ (es : List Event). StandsBy ss es processes waits made sends accepts) (sym idle) stands
 
 pub stands_accepts : (ss : List Statement) (events : List Event) (p given i : ℕ) (processes : List Process) (waits rest : List Letter) (made sends accepts : ℕ) (old new : Process) (d : Letter)
@@ -209,7 +212,8 @@ pub block_is : (ss : List Statement) (events : List Event) (p : ℕ) (processes 
     → block p (look_before (step_of ss (get_or processes p d).events)) (get_or processes p d).events (output_after ss (get_or processes p d).events) ≡ block_of ss events p
 block_is ss events p processes waits made sends accepts d stands low =
     ap (λ k. block p (look_before (step_of ss k)) k (output_after ss k)) (stands.counted p d low)
-    ∙ ap (λ (l : Look). block p l (count events p) (output_after ss (count events p))) (sym (look_is (step_of ss (count events p)) (sends_of ss (count events p)) (next ss events p) (coming ss events p (step_of ss (count events p)) refl)))
+    ∙ ap (λ (l : Look). block p l (count events p) (output_after ss (count events p))) (sym (look_is (step_of ss (count events p)) (sends_of ss (count events p)) (next ss events p)
+    (coming ss events p (step_of ss (count events p)) refl)))
 
 -- ---- a run and its queues
 

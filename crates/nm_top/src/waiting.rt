@@ -53,7 +53,8 @@ impl Waiting {
     pub fn post(&mut self, letter: Letter) -> Result<(), AllocError>
         requires place { letter.dest.no * 32 + letter.chan < length self.old.queues.items }
         requires room { letter.posted < 1000000 }
-        ensures kept { OnOk result ((n : ℕ) (ws : List Letter) → letter.dest.no < n → letter.chan < 32 → Keeps n self.old letter.posted ws → Keeps n self.new (letter.posted + 1) (ws ++ letter ∷ [])) }
+        ensures kept { OnOk result ((n : ℕ) (ws : List Letter) → letter.dest.no < n → letter.chan < 32 → Keeps n self.old letter.posted ws
+            → Keeps n self.new (letter.posted + 1) (ws ++ letter ∷ [])) }
         ensures size { length self.new.queues.items ≡ length self.old.queues.items }
     {
         let row = letter.dest.no as usize * CHANNELS as usize + letter.chan as usize;

@@ -12,16 +12,19 @@ returns-in-Over-clause-run c = λ events stands. record {
 
 pub post-requires-clause-place : goal.post-requires-clause-place
 post-requires-clause-place c =
-    let fit = sends_fit (length c.args.world.now.processes.items) c.args.statements.now c.index.result.now.events c.in-Sends.dest c.in-Sends.chan c.in-Sends.word c.requires.fits (sym c.step_after.ensures ∙ c.in-Sends.is) in
+    let fit = sends_fit (length c.args.world.now.processes.items) c.args.statements.now c.index.result.now.events c.in-Sends.dest c.in-Sends.chan c.in-Sends.word c.requires.fits
+    (sym c.step_after.ensures ∙ c.in-Sends.is) in
     omega (arith, fit.0, fit.1, c.requires.queues)
 
 pub returns-in-Sends-clause-run : goal.returns-in-Sends-clause-run
 returns-in-Sends-clause-run c = λ events stands.
-    let fit = sends_fit (length c.args.world.now.processes.items) c.args.statements.now c.index.result.now.events c.in-Sends.dest c.in-Sends.chan c.in-Sends.word c.requires.fits (sym c.step_after.ensures ∙ c.in-Sends.is) in
+    let fit = sends_fit (length c.args.world.now.processes.items) c.args.statements.now c.index.result.now.events c.in-Sends.dest c.in-Sends.chan c.in-Sends.word c.requires.fits
+    (sym c.step_after.ensures ∙ c.in-Sends.is) in
     record {
       waits = _;
       parts = rw (c.saturating_add-world.ensures)
-          (stands_sends c.args.statements.now events c.args.process c.in-Sends.dest c.in-Sends.chan c.in-Sends.word _ _ _ _ _ c.index.result.now _ _ stands.parts c.requires.known c.requires.room c.index.ensures
+          (stands_sends c.args.statements.now events c.args.process c.in-Sends.dest c.in-Sends.chan c.in-Sends.word _ _ _ _ _ c.index.result.now _ _ stands.parts c.requires.known
+          c.requires.room c.index.ensures
           (sym c.step_after.ensures ∙ c.in-Sends.is) c.saturating_add.ensures c.saturating_add-in-Sends.ensures refl);
       kept = kept_set _ c.args.process _ c.post.new.self _ _ _ (omega arith) (c.in_ok-post-in-Sends.ensures.kept (length c.args.world.now.processes.items) stands.waits fit.0 fit.1 stands.kept);
     }
@@ -31,7 +34,8 @@ returns-in_default-clause-run c = λ events stands.
     let taken = c.in_default.ensures.taken (length c.args.world.now.processes.items) c.args.world.now.events stands.waits c.requires.known stands.kept in
     record {
       waits = stands.waits;
-      parts = stands_waits c.args.statements.now events c.args.process c.in-Waits.set _ _ _ _ _ c.index.result.now stands.parts c.requires.known c.index.ensures (sym c.step_after.ensures ∙ c.in-Waits.is) taken.0;
+      parts = stands_waits c.args.statements.now events c.args.process c.in-Waits.set _ _ _ _ _ c.index.result.now stands.parts c.requires.known c.index.ensures
+          (sym c.step_after.ensures ∙ c.in-Waits.is) taken.0;
       kept = taken.1;
     }
 
@@ -49,7 +53,8 @@ returns-clause-run c =
           record {
             waits = taken.0;
             parts = rw (w.saturating_add-world-in-Waits.ensures)
-                (stands_taken c.args.statements.now events c.args.process w.in-Waits.set _ stands.waits taken.0 _ _ _ c.index.result.now _ w.in-Some.field-0 stands.parts c.requires.known c.requires.room c.index.ensures
+                (stands_taken c.args.statements.now events c.args.process w.in-Waits.set _ stands.waits taken.0 _ _ _ c.index.result.now _ w.in-Some.field-0 stands.parts c.requires.known
+                c.requires.room c.index.ensures
                 (sym c.step_after.ensures ∙ w.in-Waits.is) taken.1 c.saturating_add-2.ensures refl);
             kept = kept_set _ c.args.process _ _ _ _ _ (omega arith) taken.2;
           })
