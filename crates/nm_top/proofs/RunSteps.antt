@@ -6,13 +6,12 @@ use Rattle.nm_base.specs.declared.kind.Kind.{Kind}
 use Rattle.nm_base.specs.declared.kind.Kind.TheVariants.{Sent, Accepted}
 use Rattle.nm_base.specs.declared.letter.LetterId.{LetterId}
 use Rattle.c_tree.specs.declared.thin.Statement.{Statement}
-use Rattle.nm_base.specs.Channels.{has_channel}
 use Rattle.nm_base.specs.Message.{Message, same_name}
 use Rattle.nm_base.specs.Scripts.{message_sent}
 use Rattle.c_tree.specs.ThinMeaning.{sent_by}
 use Rattle.nm_top.specs.declared.step.Step.{Step}
 use Rattle.nm_top.specs.declared.step.Step.TheVariants.{Plain, Sends, Waits, Over}
-use Rattle.nm_top.specs.Runs.{Event, count, accepted_in, accepted, sent, waiting, with_event, may_take}
+use Rattle.nm_top.specs.Runs.{Event, count, accepted_in, accepted, sent, waiting, with_event}
 use Rattle.nm_top.specs.Steps.{step_of, sends_in, sends_of}
 use Rattle.c_tree.specs.declared.thin.Statement.TheVariants.{Print, Send, Receive}
 use Rattle.nm_top.specs.Stands.{AreDistinct, WasSent, IsSound}
