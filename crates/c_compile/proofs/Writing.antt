@@ -1,8 +1,8 @@
 -- The parts of statements, as they are written.
-use Rattle.std.proofs.Common.{◌≡◌, ℕ, ◌+◌, ◌<◌, Bool, true, false, List, [], ◌∷◌, map, length, drop, get_or, Option, Some, None, Result, refl, sym, ap, ◌∙◌, subst}
+use Rattle.std.proofs.Common.{◌≡◌, ℕ, ◌+◌, ◌<◌, Bool, true, false, List, [], ◌∷◌, ◌++◌, append_assoc, map, length, drop, get_or, Option, Some, None, Result, refl, sym, ap, ◌∙◌, subst}
 use Rattle.std.specs.Prelude.{OnOk, slice_get}
 use Rattle.std.specs.List.{list_any}
-use Rattle.std.proofs.lemmas.List.{drop_more}
+use Rattle.std.proofs.lemmas.List.{drop_more, append-nil}
 use Rattle.nm_base.specs.declared.operator.Ctype.TheVariants.{Int}
 use Rattle.nm_base.specs.declared.operator.BinaryOp.TheVariants.{Equal}
 use Rattle.c_tree.specs.declared.program.Slot.{Slot}
@@ -139,3 +139,16 @@ module _ (sh : Shape) where
   pub default_none : (xs : List PArm) (i start : ℕ) → i ≡ length xs → default_place_of sh (drop i xs) start ≡ start
   unfolding default_place_of
   default_none xs i start e = ap (λ n. default_place_of sh (drop n xs) start) e ∙ ap (λ l. default_place_of sh l start) (drop_all xs)
+
+-- ---- a list that is made item by item
+
+pub map_more : {A B : Type 0} (f : A → B) (xs : List A) (i : ℕ) (made more : List B) (x : A) → i < length xs → x ≡ get_or xs i x → more ≡ made ++ f x ∷ [] → made ++ map f (drop i xs) ≡ map f xs → more ++ map f (drop (i + 1) xs) ≡ map f xs
+map_more f xs i made more x lt is e inv =
+    ap (λ l. l ++ map f (drop (i + 1) xs)) e
+    ∙ append_assoc made (f x ∷ []) (map f (drop (i + 1) xs))
+    ∙ ap (λ l. made ++ map f l) (sym (drops xs i x lt is))
+    ∙ inv
+
+pub map_end : {A B : Type 0} (f : A → B) (xs : List A) (i : ℕ) (made : List B) → i ≡ length xs → made ++ map f (drop i xs) ≡ map f xs → made ≡ map f xs
+map_end f xs i made e inv =
+    sym (append-nil made) ∙ ap (λ l. made ++ map f l) (sym (drop_all xs)) ∙ ap (λ n. made ++ map f (drop n xs)) (sym e) ∙ inv

@@ -1,6 +1,6 @@
 //! The code of statements. Each target is known before its jump is written.
 
-ghost use Rattle.std.specs.Prelude.{◌≡◌, ◌∷◌, OnOk, Some, None, map};
+ghost use Rattle.std.specs.Prelude.{◌≡◌, ◌∷◌, OnOk, IfOk, Some, None, map};
 ghost use Rattle.c_compile.specs.Asm.{◌⨾◌};
 ghost use Rattle.c_compile.specs.StmtCode as spec;
 ghost use Rattle.c_compile.specs.StmtCode.{stmt_code};
@@ -8,13 +8,19 @@ ghost use Rattle.c_compile.specs.Emitted.{shape_of, code_of_stmt, code_of_list, 
 ghost use Rattle.c_compile.specs.Body.{IsLaidOut, Wrote};
 
 use crate::body::Body;
-use crate::ends::{arms_end, do_back, effect_end, else_place, first_arm, for_again, for_top, next, place_after, stmt_end, while_back};
+use crate::ends::{
+    arms_end, do_back, effect_end, else_place, first_arm, for_again, for_top, next, stmt_end,
+    while_back,
+};
 use crate::exits::Exits;
 use crate::scope::Scope;
-use crate::stmt_parts::{default_place, put_cases, put_effect, put_returned, put_starts, put_test, put_zeros};
+use crate::stmt_parts::{
+    default_place, put_cases, put_effect, put_returned, put_starts, put_test, put_zeros,
+};
 use c_tree::{PArm, PExpr, PStmt, Start};
 use nm_base::WantOfMemory;
 use stack_code::Instr;
+use std::alloc::{AllocError, Global};
 
 /// The code of a statement.
 #[cycle(stmt)]
@@ -70,12 +76,7 @@ pub fn emit_stmt(
 }
 
 /// An expression statement.
-fn emit_run(
-    scope: &Scope,
-    body: &mut Body,
-    part: &PExpr,
-    line: u32,
-) -> Result<(), WantOfMemory>
+fn emit_run(scope: &Scope, body: &mut Body, part: &PExpr, line: u32) -> Result<(), WantOfMemory>
     requires { IsLaidOut body.old }
     ensures { OnOk result (Wrote body.old body.new (λ blocks. spec.put blocks (Instr.Line line) ⨾ spec.effect_code (shape_of scope.now) (Some part.now) blocks)) }
 {
@@ -122,17 +123,21 @@ fn emit_block(
     requires { IsLaidOut body.old }
     ensures { OnOk result (Wrote body.old body.new (λ blocks. code_of_inside (shape_of scope.now) locals.now list.now exits (map (λ x. x.slot) locals.now ∷ blocks))) }
 {
-    let outer = body.open(slots_in(scope, locals)?)?;
+    let slots = slots_in(scope.alloc, locals)?;
+    let outer = body.open(slots)?;
     emit_inside(scope, body, locals, list, exits)?;
     body.close(outer);
     Ok(())
 }
 
 /// The locals' slots of a block.
-pub fn slots_in(scope: &Scope, locals: &[Start]) -> Result<Vec<u32>, WantOfMemory>
+pub fn slots_in(alloc: Global, locals: &[Start]) -> Result<Vec<u32>, AllocError>
     ensures { IfOk result (λ slots. slots.items ≡ map (λ x. x.slot) locals.now) }
 {
-    let slots = locals.iter().map(|local| local.slot).collect(scope.alloc)?;
+    let mut slots = Vec::new(alloc);
+    for local in locals {
+        slots.push(local.slot)?;
+    }
     Ok(slots)
 }
 
@@ -183,7 +188,8 @@ fn emit_if(
     requires { IsLaidOut body.old }
     ensures { OnOk result (Wrote body.old body.new (λ blocks. spec.put blocks (Instr.Line line) ⨾ spec.if_code (shape_of scope.now) test.now (stmt_code (shape_of scope.now) yes.now) None exits blocks)) }
 {
-    let start = next(body.place()?)?;
+    let place = body.place()?;
+    let start = next(place)?;
     let end = else_place(scope, test, yes, start)?;
     body.put(Instr::Line(line))?;
     body.put_value(scope, test)?;
@@ -206,7 +212,8 @@ fn emit_if_else(
     requires { IsLaidOut body.old }
     ensures { OnOk result (Wrote body.old body.new (λ blocks. spec.put blocks (Instr.Line line) ⨾ spec.if_code (shape_of scope.now) test.now (stmt_code (shape_of scope.now) yes.now) (Some (stmt_code (shape_of scope.now) no.now)) exits blocks)) }
 {
-    let start = next(body.place()?)?;
+    let place = body.place()?;
+    let start = next(place)?;
     let second = else_place(scope, test, yes, start)?;
     let end = stmt_end(scope, no, second)?;
     body.put(Instr::Line(line))?;
@@ -256,8 +263,10 @@ fn emit_do(
     ensures { OnOk result (Wrote body.old body.new (λ blocks. spec.do_code (shape_of scope.now) (stmt_code (shape_of scope.now) inner.now) test.now line blocks)) }
 {
     let start = body.place()?;
-    let again = stmt_end(scope, inner, next(start)?)?;
-    let end = next(do_back(scope, test, again)?)?;
+    let first = next(start)?;
+    let again = stmt_end(scope, inner, first)?;
+    let back = do_back(scope, test, again)?;
+    let end = next(back)?;
     body.put(Instr::Line(line))?;
     let exits = Exits {
         breaks: end,
@@ -284,12 +293,15 @@ fn emit_for(
     requires { IsLaidOut body.old }
     ensures { OnOk result (Wrote body.old body.new (λ blocks. spec.for_code (shape_of scope.now) first.now test.now third.now (stmt_code (shape_of scope.now) inner.now) line blocks)) }
 {
-    let top = for_top(scope, first, body.place()?)?;
+    let start = body.place()?;
+    let top = for_top(scope, first, start)?;
     let again = for_again(scope, test, inner, top)?;
-    let end = next(effect_end(scope, third, again)?)?;
+    let back = effect_end(scope, third, again)?;
+    let end = next(back)?;
+    let turn = next(top)?;
     body.put(Instr::Line(line))?;
     put_effect(scope, body, first)?;
-    body.put(Instr::Jump(next(top)?))?;
+    body.put(Instr::Jump(turn))?;
     body.put(Instr::Line(line))?;
     put_test(scope, body, test, end)?;
     let exits = Exits {
@@ -315,7 +327,8 @@ fn emit_switch(
     requires { IsLaidOut body.old }
     ensures { OnOk result (Wrote body.old body.new (code_of_switch (shape_of scope.now) on.now arms.now line exits)) }
 {
-    let first = first_arm(scope, on, arms, body.place()?)?;
+    let start = body.place()?;
+    let first = first_arm(scope, on, arms, start)?;
     let end = arms_end(scope, arms, first)?;
     let default = default_place(scope, arms, first)?;
     body.put(Instr::Line(line))?;

@@ -52,11 +52,7 @@ pub fn put_test(
 }
 
 /// The value that a function returns, which is 0 where none is given.
-pub fn put_returned(
-    scope: &Scope,
-    body: &mut Body,
-    e: &Option<PExpr>,
-) -> Result<(), WantOfMemory>
+pub fn put_returned(scope: &Scope, body: &mut Body, e: &Option<PExpr>) -> Result<(), WantOfMemory>
     requires { IsLaidOut body.old }
     ensures { OnOk result (Wrote body.old body.new (λ blocks. spec.returned (shape_of scope.now) e.now blocks)) }
 {
