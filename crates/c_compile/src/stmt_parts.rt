@@ -9,9 +9,10 @@ ghost use Rattle.c_compile.specs.StmtCode as spec;
 ghost use Rattle.c_compile.specs.Emitted.{shape_of, code_of_zeros, code_of_starts, code_of_labels, code_of_cases, default_place_of};
 ghost use Rattle.c_compile.specs.Body.{IsLaidOut, Wrote};
 
+use crate::access::slot_words;
 use crate::body::Body;
 use crate::ends::{list_end, place_after};
-use crate::scope::{Scope, slot_words};
+use crate::scope::Scope;
 use c_tree::{PArm, PExpr, PLabel, Start};
 use nm_base::{BinaryOp, Ctype, WantOfMemory};
 use stack_code::Instr;
@@ -80,7 +81,7 @@ fn put_zero(scope: &Scope, body: &mut Body, slot: u32) -> Result<(), WantOfMemor
     match scope.slot(slot) {
         None => Ok(()),
         Some(local) => {
-            let base = scope.slot_place(slot)?;
+            let base = scope.slot_place(slot);
             let len = slot_words(local);
             body.put(Instr::Zero { base, len })?;
             Ok(())
@@ -106,7 +107,7 @@ fn put_start(scope: &Scope, body: &mut Body, local: &Start) -> Result<(), WantOf
     match &local.value {
         None => Ok(()),
         Some(e) => {
-            let place = scope.slot_place(local.slot)?;
+            let place = scope.slot_place(local.slot);
             body.put(Instr::Line(local.line))?;
             body.put_value(scope, e)?;
             body.put(Instr::LocalPlace(place))?;
