@@ -1,6 +1,5 @@
 -- The code of each kind of statement, as it is written.
 use Rattle.std.proofs.Common.{◌≡◌, ℕ, ◌+◌, ◌<◌, List, [], ◌∷◌, map, length, drop, get_or, Option, Some, None, refl, sym, ap, ◌∙◌, subst}
-use Rattle.std.proofs.lemmas.List.{drop_more}
 use Rattle.c_tree.specs.declared.program.Start.{Start}
 use Rattle.c_tree.specs.declared.program.PExpr.{PExpr}
 use Rattle.c_tree.specs.declared.program.PArm.{PArm}
@@ -18,6 +17,7 @@ use Rattle.c_compile.specs.declared.body.Body.{Body}
 use Rattle.c_compile.specs.Body.{steps_of, blocks_of, IsLaidOut, Wrote}
 use Rattle.c_compile.proofs.Bodies.{wrote_nothing, wrote_both, wrote_as, Onward, onward_more}
 use Rattle.c_compile.proofs.ByStmt.{stmt_is}
+use Rattle.c_compile.proofs.Writing.{drops}
 
 -- ---- the code of each kind, by its parts
 
@@ -87,9 +87,6 @@ module _ (sh : Shape) {a b c d : Body} where
   inside_written locals list exits h1 h2 h3 = wrote_both h1 (wrote_both h2 h3)
 
 -- ---- lists
-
-drops : {A : Type 0} (xs : List A) (i : ℕ) (x : A) → i < length xs → x ≡ get_or xs i x → drop i xs ≡ x ∷ drop (i + 1) xs
-drops xs i x h is = drop_more xs i x h ∙ ap (λ y. y ∷ drop (i + 1) xs) (sym is)
 
 module _ (sh : Shape) (exits : Exits) where
   pub list_none : code_of_list sh [] exits ≡ (λ blocks. nothing)

@@ -93,13 +93,18 @@ pub fn first_words(alloc: Memory, globals: &[Global]) -> Result<Vec<u32>, WantOf
     Ok(words)
 }
 
+fn length_after(length: usize, count: u32) -> Result<usize, WantOfMemory>
+    ensures { IfOk result (λ n. n ≡ length + count) }
+{
+    length.checked_add(count as usize).ok_or(WantOfMemory)
+}
+
 /// Adds a word so many times.
 fn add_words(words: &mut Vec<u32>, count: u32, word: u32) -> Result<(), WantOfMemory>
     ensures { OnOk result (words.new.items ≡ words.old.items ++ replicate count word) }
 {
-    for _ in 0..count {
-        add(words, word)?;
-    }
+    let end = length_after(words.len(), count)?;
+    words.resize(end, word)?;
     Ok(())
 }
 
