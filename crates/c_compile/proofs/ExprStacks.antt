@@ -72,10 +72,10 @@ module _ (code : Code) (f : FunctionCode) where
   pushes_bits : (bits : ℕ) → Pushes (one (instr.Push bits)) (Value ∷ [])
   pushes_bits bits = record { by = λ s. finds.single code f (instr.Push bits) s (Value ∷ s) refl (λ p next h. h) }
 
-  load : (s : List Operand) → Leads code f (one instr.Load) (Place ∷ s) (Value ∷ s)
+  pub load : (s : List Operand) → Leads code f (one instr.Load) (Place ∷ s) (Value ∷ s)
   load s = finds.single code f instr.Load (Place ∷ s) (Value ∷ s) refl (λ p next h. h)
 
-  store : (s : List Operand) → Leads code f (one instr.Store) (Value ∷ Place ∷ s) (Value ∷ s)
+  pub store : (s : List Operand) → Leads code f (one instr.Store) (Value ∷ Place ∷ s) (Value ∷ s)
   store s = finds.single code f instr.Store (Value ∷ Place ∷ s) (Value ∷ s) refl (λ p next h. h)
 
   unary : (op : UnaryOp) (of : Ctype) (s : List Operand) → Leads code f (one (instr.Unary op of)) (Value ∷ s) (Value ∷ s)
@@ -84,7 +84,7 @@ module _ (code : Code) (f : FunctionCode) where
   binary : (op : BinaryOp) (of : Ctype) (s : List Operand) → Leads code f (one (instr.Binary op of)) (Value ∷ Value ∷ s) (Value ∷ s)
   binary op of s = finds.single code f (instr.Binary op of) (Value ∷ Value ∷ s) (Value ∷ s) refl (λ p next h. h)
 
-  drop_value : (s : List Operand) → Leads code f (one instr.Drop) (Value ∷ s) s
+  pub drop_value : (s : List Operand) → Leads code f (one instr.Drop) (Value ∷ s) s
   drop_value s = finds.single code f instr.Drop (Value ∷ s) s refl (λ p next h. h)
 
   dup_place : (s : List Operand) → Leads code f (one instr.Dup) (Place ∷ s) (Place ∷ Place ∷ s)
@@ -94,7 +94,7 @@ module _ (code : Code) (f : FunctionCode) where
   value_below : (s : List Operand) → Leads code f (one instr.Swap) (Value ∷ Place ∷ s) (Place ∷ Value ∷ s)
   value_below s = finds.single code f instr.Swap (Value ∷ Place ∷ s) (Place ∷ Value ∷ s) refl (λ p next h. h)
 
-  place_below : (s : List Operand) → Leads code f (one instr.Swap) (Place ∷ Value ∷ s) (Value ∷ Place ∷ s)
+  pub place_below : (s : List Operand) → Leads code f (one instr.Swap) (Place ∷ Value ∷ s) (Value ∷ Place ∷ s)
   place_below s = finds.single code f instr.Swap (Place ∷ Value ∷ s) (Value ∷ Place ∷ s) refl (λ p next h. h)
 
   values_swapped : (s : List Operand) → Leads code f (one instr.Swap) (Value ∷ Value ∷ s) (Value ∷ Value ∷ s)
