@@ -52,7 +52,8 @@ pub record Knows (code : Code) (f : FunctionCode) (names : Names) : Type 0 where
   pub scalar_global : (i : ℕ) (g : Global) → slice_get names.globals i ≡ Some g → g.length ≡ None → list_any (is_scalar_at (words_before words_of_global names.globals i)) code.variables ≡ true
   pub array_global : (i n : ℕ) (g : Global) → slice_get names.globals i ≡ Some g → g.length ≡ Some n → list_any (is_array_at (words_before words_of_global names.globals i) n) code.variables ≡ true
   pub scalar_slot : (i : ℕ) (x : Slot) → slice_get names.slots i ≡ Some x → x.array_param ≡ false → x.length ≡ None → list_any (is_scalar_at (words_before words_of_slot names.slots i)) f.slots ≡ true
-  pub array_slot : (i n : ℕ) (x : Slot) → slice_get names.slots i ≡ Some x → x.array_param ≡ false → x.length ≡ Some n → list_any (is_array_at (words_before words_of_slot names.slots i) n) f.slots ≡ true
+  pub array_slot :
+      (i n : ℕ) (x : Slot) → slice_get names.slots i ≡ Some x → x.array_param ≡ false → x.length ≡ Some n → list_any (is_array_at (words_before words_of_slot names.slots i) n) f.slots ≡ true
   pub array_param : (i : ℕ) (x : Slot) → slice_get names.slots i ≡ Some x → x.array_param ≡ true → list_any (is_array_param_at (words_before words_of_slot names.slots i)) f.slots ≡ true
   pub whole_slot : (i : ℕ) (x : Slot) → slice_get names.slots i ≡ Some x → x.array_param ≡ false → list_any (is_whole_at (words_before words_of_slot names.slots i) (words_of_slot x)) f.slots ≡ true
   pub functions : (g : ℕ) (fn : Function) → slice_get names.functions g ≡ Some fn → operands_by (slice_get code.functions g) ≡ param_operands fn.params
@@ -101,7 +102,10 @@ module _ (code : Code) (f : FunctionCode) where
   values_swapped s = finds.single code f instr.Swap (Value ∷ Value ∷ s) (Value ∷ Value ∷ s) refl (λ p next h. h)
 
   -- an instruction that takes operands and pushes a value
-  taker : (i : Instr) (ks : List Operand) (s : List Operand) → names_fit code.variables f.slots i ≡ true → ((p : ℕ) (t : List Operand) (next : ℕ → List Operand → Bool) → taking ks t (λ u. next (p + 1) (Value ∷ u)) ≡ true → follows code f i p t next ≡ true) → Leads code f (one i) (pushed ks s) (Value ∷ s)
+  taker :
+      (i : Instr) (ks : List Operand) (s : List Operand) → names_fit code.variables f.slots i ≡ true
+      → ((p : ℕ) (t : List Operand) (next : ℕ → List Operand → Bool) → taking ks t (λ u. next (p + 1) (Value ∷ u)) ≡ true → follows code f i p t next ≡ true)
+      → Leads code f (one i) (pushed ks s) (Value ∷ s)
   taker i ks s fit k =
       finds.single code f i (pushed ks s) (Value ∷ s) fit (λ p next h. k p (pushed ks s) next (taking_pushed ks s (λ u. next (p + 1) (Value ∷ u)) ∙ h))
 
@@ -165,7 +169,8 @@ module _ (code : Code) (f : FunctionCode) where
   with_type_stacks n (Text text) c d go h k = tt
   with_type_stacks n Wrong c d go h k = tt
 
-  with_place_stacks : (n : ℕ) (s : Sort) (c d : ExprCode) (go : Ctype → Sort) → SortStacks n s c → ((of : Ctype) → Pushes c.place (Place ∷ []) → SortStacks n (go of) d) → SortStacks n (with_place s go) d
+  with_place_stacks :
+      (n : ℕ) (s : Sort) (c d : ExprCode) (go : Ctype → Sort) → SortStacks n s c → ((of : Ctype) → Pushes c.place (Place ∷ []) → SortStacks n (go of) d) → SortStacks n (with_place s go) d
   with_place_stacks n (typing.Value of true) c d go h k = k of h.1
   with_place_stacks n (typing.Value of false) c d go h k = tt
   with_place_stacks n Void c d go h k = tt
@@ -237,7 +242,9 @@ module _ (code : Code) (f : FunctionCode) where
       let more = values_stack n ss es r.1 b.1 in
       (both first.argument more.0, omega (arith, first.width, more.1))
 
-  param_stacks : (n : ℕ) (s : Sort) (x : Slot) (c : ExprCode) → SortStacks n s c → fits_param s x ≡ true → Pushes c.argument (elim x.array_param [ true ↦ ArrayPlace ∷ ArrayLength ∷ [] | false ↦ Value ∷ [] ])
+  param_stacks :
+      (n : ℕ) (s : Sort) (x : Slot) (c : ExprCode) → SortStacks n s c → fits_param s x ≡ true
+      → Pushes c.argument (elim x.array_param [ true ↦ ArrayPlace ∷ ArrayLength ∷ [] | false ↦ Value ∷ [] ])
   param_stacks n (typing.Value of is_place) x c h e = by_kind x.array_param e
     where
       by_kind : (b : Bool) → not b ≡ true → Pushes c.argument (elim b [ true ↦ ArrayPlace ∷ ArrayLength ∷ [] | false ↦ Value ∷ [] ])
@@ -262,28 +269,40 @@ module _ (code : Code) (f : FunctionCode) where
       let b = both_true (fits_param s x) (fit_params ss xs) h in
       subst (λ ks. Pushes (code_of.argument_code (e ∷ es)) ks) (joined x.array_param) (both (param_stacks n s x e.part r.0 b.0) (params_stack n ss es xs r.1 b.1))
     where
-      joined : (b : Bool) → elim b [ true ↦ ArrayPlace ∷ ArrayLength ∷ [] | false ↦ Value ∷ [] ] ++ param_operands xs ≡ elim b [ true ↦ ArrayPlace ∷ ArrayLength ∷ param_operands xs | false ↦ Value ∷ param_operands xs ]
+      joined :
+          (b : Bool)
+          → elim b [ true ↦ ArrayPlace ∷ ArrayLength ∷ [] | false ↦ Value ∷ [] ] ++ param_operands xs ≡ elim b [ true ↦ ArrayPlace ∷ ArrayLength ∷ param_operands xs | false ↦ Value ∷ param_operands xs ]
       joined true = refl
       joined false = refl
 
   -- ---- calls of built-in functions
 
   -- an instruction after its operands
-  after_operands : {asm : Asm} {ks : List Operand} (i : Instr) → Pushes asm ks → names_fit code.variables f.slots i ≡ true → ((p : ℕ) (t : List Operand) (next : ℕ → List Operand → Bool) → taking ks t (λ u. next (p + 1) (Value ∷ u)) ≡ true → follows code f i p t next ≡ true) → Pushes (asm ⨾ one i) (Value ∷ [])
+  after_operands :
+      {asm : Asm} {ks : List Operand} (i : Instr) → Pushes asm ks → names_fit code.variables f.slots i ≡ true
+      → ((p : ℕ) (t : List Operand) (next : ℕ → List Operand → Bool) → taking ks t (λ u. next (p + 1) (Value ∷ u)) ≡ true → follows code f i p t next ≡ true)
+      → Pushes (asm ⨾ one i) (Value ∷ [])
   after_operands {ks = ks} i x fit k = record { by = λ s. finds.seq code f (x.by s) (taker i ks s fit k) }
 
   -- an instruction that pushes a value
-  giver : (i : Instr) → names_fit code.variables f.slots i ≡ true → ((p : ℕ) (t : List Operand) (next : ℕ → List Operand → Bool) → next (p + 1) (Value ∷ t) ≡ true → follows code f i p t next ≡ true) → Pushes (one i) (Value ∷ [])
+  giver :
+      (i : Instr) → names_fit code.variables f.slots i ≡ true
+      → ((p : ℕ) (t : List Operand) (next : ℕ → List Operand → Bool) → next (p + 1) (Value ∷ t) ≡ true → follows code f i p t next ≡ true) → Pushes (one i) (Value ∷ [])
   giver i fit k = record { by = λ s. finds.single code f i s (Value ∷ s) fit (λ p next h. k p s next h) }
 
-  one_stacks : (n : ℕ) (i : Instr) (ss : List Sort) (es : List TypedCode) → AllStacks n ss es → (all_values ss && length ss == 1) ≡ true → names_fit code.variables f.slots i ≡ true → ((p : ℕ) (t : List Operand) (next : ℕ → List Operand → Bool) → taking (Value ∷ []) t (λ u. next (p + 1) (Value ∷ u)) ≡ true → follows code f i p t next ≡ true) → Pushes (code_of.argument_code es ⨾ one i) (Value ∷ [])
+  one_stacks :
+      (n : ℕ) (i : Instr) (ss : List Sort) (es : List TypedCode) → AllStacks n ss es → (all_values ss && length ss == 1) ≡ true → names_fit code.variables f.slots i ≡ true
+      → ((p : ℕ) (t : List Operand) (next : ℕ → List Operand → Bool) → taking (Value ∷ []) t (λ u. next (p + 1) (Value ∷ u)) ≡ true → follows code f i p t next ≡ true)
+      → Pushes (code_of.argument_code es ⨾ one i) (Value ∷ [])
   one_stacks n i ss es r h fit k =
       let b = both_true (all_values ss) (length ss == 1) h in
       let v = values_stack n ss es r b.0 in
       after_operands i (subst (λ m. Pushes (code_of.argument_code es) (values m)) (eqb-true (length ss) 1 b.1) v.0) fit k
 
   -- a send of 1 to 8 words
-  send_stacks : (n : ℕ) (ss : List Sort) (es : List TypedCode) → AllStacks n ss es → (all_values ss && nat_le 3 (length ss) && nat_le (length ss) 10) ≡ true → Pushes (code_of.argument_code es ⨾ one (instr.Send (width_of es - 2))) (Value ∷ [])
+  send_stacks :
+      (n : ℕ) (ss : List Sort) (es : List TypedCode) → AllStacks n ss es → (all_values ss && nat_le 3 (length ss) && nat_le (length ss) 10) ≡ true
+      → Pushes (code_of.argument_code es ⨾ one (instr.Send (width_of es - 2))) (Value ∷ [])
   send_stacks n ss es r h =
       let b = both_true (all_values ss && nat_le 3 (length ss)) (nat_le (length ss) 10) h in
       let a = both_true (all_values ss) (nat_le 3 (length ss)) b.0 in
@@ -300,14 +319,18 @@ module _ (code : Code) (f : FunctionCode) where
   count_facts None n h = cc
   count_facts (Some m) n h = eqb-true m n h
 
-  format_stacks : (n : ℕ) (o : Option (List ℕ)) (ss : List Sort) (es : List TypedCode) → AllStacks n ss es → fits_format o ss ≡ true → Pushes (code_of.argument_code es) (values (conversions (unwrap_or o [])))
+  format_stacks :
+      (n : ℕ) (o : Option (List ℕ)) (ss : List Sort) (es : List TypedCode) → AllStacks n ss es → fits_format o ss ≡ true
+      → Pushes (code_of.argument_code es) (values (conversions (unwrap_or o [])))
   format_stacks n None ss es r h = cc
   format_stacks n (Some text) ss es r h =
       let b = both_true (all_values ss) (is_count (conversions_from false text) (length ss)) h in
       let v = values_stack n ss es r b.0 in
       subst (λ m. Pushes (code_of.argument_code es) (values m)) (sym (count_facts (conversions_from false text) (length ss) b.1)) v.0
 
-  printf_stacks : (texts : List (List ℕ)) → code.texts ≡ texts → (ss : List Sort) (es : List TypedCode) → AllStacks (length texts) ss es → fits_printf texts ss ≡ true → Pushes (code_of.argument_code (code_of.after_text es) ⨾ one (instr.Print (unwrap_or (code_of.text_of es) 0))) (Value ∷ [])
+  printf_stacks :
+      (texts : List (List ℕ)) → code.texts ≡ texts → (ss : List Sort) (es : List TypedCode) → AllStacks (length texts) ss es → fits_printf texts ss ≡ true
+      → Pushes (code_of.argument_code (code_of.after_text es) ⨾ one (instr.Print (unwrap_or (code_of.text_of es) 0))) (Value ∷ [])
   printf_stacks texts is [] es r h = cc
   printf_stacks texts is (s ∷ ss) [] r h = absurd r
   printf_stacks texts is (Text text ∷ ss) (e ∷ es) r h =
@@ -332,7 +355,9 @@ module _ (code : Code) (f : FunctionCode) (names : Names) (knows : Knows code f 
 
   -- ---- calls
 
-  own_stacks : (g : ℕ) (fits : Bool) (o : Option Function) → slice_get names.functions g ≡ o → (ss : List Sort) (es : List TypedCode) → AllStacks code f known_texts ss es → Stacks (call_of_function o ss) (code_of.valued (code_of.argument_code es ⨾ one (instr.Call g)) fits)
+  own_stacks :
+      (g : ℕ) (fits : Bool) (o : Option Function) → slice_get names.functions g ≡ o → (ss : List Sort) (es : List TypedCode) → AllStacks code f known_texts ss es
+      → Stacks (call_of_function o ss) (code_of.valued (code_of.argument_code es ⨾ one (instr.Call g)) fits)
   own_stacks g fits None e ss es r = tt
   own_stacks g fits (Some fn) e ss es r =
       where_true_stacks code f known_texts (fit_params ss fn.params) (result_of fn.result) _ (λ h.
@@ -340,7 +365,9 @@ module _ (code : Code) (f : FunctionCode) (names : Names) (knows : Knows code f 
       let named = sym (knows.functions g fn e) in
       result_stacks code f known_texts fn.result _ (valued_stacks code f _ fits (after_operands code f (instr.Call g) (subst (λ ks. Pushes code f (code_of.argument_code es) ks) named ready) refl (λ p t next k. k))))
 
-  built_stacks : (b : BuiltIn) (ss : List Sort) (es : List TypedCode) → AllStacks code f known_texts ss es → fits_built_in names.texts b ss ≡ true → Pushes code f (code_of.built_in sh b es).0 (Value ∷ [])
+  built_stacks :
+      (b : BuiltIn) (ss : List Sort) (es : List TypedCode) → AllStacks code f known_texts ss es → fits_built_in names.texts b ss ≡ true
+      → Pushes code f (code_of.built_in sh b es).0 (Value ∷ [])
   built_stacks built.SelfNo ss es r h = giver code f instr.SelfNo refl (λ p t next k. k)
   built_stacks built.Nprocs ss es r h = giver code f instr.Count refl (λ p t next k. k)
   built_stacks built.Send ss es r h = send_stacks code f known_texts ss es r h
@@ -351,7 +378,9 @@ module _ (code : Code) (f : FunctionCode) (names : Names) (knows : Knows code f 
   built_stacks built.Via ss es r h = giver code f instr.Via refl (λ p t next k. k)
   built_stacks built.Printf ss es r h = printf_stacks code f names.texts knows.texts ss es r (both_true (nat_le (length ss) 31) (fits_printf names.texts ss) h).1
 
-  call_stacks : (what : Callee) (ss : List Sort) (es : List TypedCode) → AllStacks code f known_texts ss es → Stacks (sort_of_call names what ss) (code_of.valued (code_of.called sh what es).0 (code_of.called sh what es).1)
+  call_stacks :
+      (what : Callee) (ss : List Sort) (es : List TypedCode) → AllStacks code f known_texts ss es
+      → Stacks (sort_of_call names what ss) (code_of.valued (code_of.called sh what es).0 (code_of.called sh what es).1)
   call_stacks (Own g) ss es r = own_stacks g _ (slice_get names.functions g) refl ss es r
   call_stacks (Built b) ss es r =
       where_true_stacks code f known_texts (fits_built_in names.texts b ss) (typing.Value Int false) _ (λ h. (valued_stacks code f _ _ (built_stacks b ss es r h), tt))
@@ -367,10 +396,15 @@ module _ (code : Code) (f : FunctionCode) (names : Names) (knows : Knows code f 
   scalar_stacks : (i : Instr) (of : Ctype) → Pushes code f (one i) (Place ∷ []) → Stacks (typing.Value of true) (code_of.placed (one i) (one i ⨾ one instr.Load) 1 true)
   scalar_stacks i of x = (placed_stacks code f (one i) (one i ⨾ one instr.Load) true x (record { by = λ s. finds.seq code f (x.by s) (load code f s) }), x)
 
-  place_pushed : (i : Instr) → names_fit code.variables f.slots i ≡ true → ((p : ℕ) (t : List Operand) (next : ℕ → List Operand → Bool) → next (p + 1) (Place ∷ t) ≡ true → follows code f i p t next ≡ true) → Pushes code f (one i) (Place ∷ [])
+  place_pushed :
+      (i : Instr) → names_fit code.variables f.slots i ≡ true
+      → ((p : ℕ) (t : List Operand) (next : ℕ → List Operand → Bool) → next (p + 1) (Place ∷ t) ≡ true → follows code f i p t next ≡ true) → Pushes code f (one i) (Place ∷ [])
   place_pushed i fit k = record { by = λ s. finds.single code f i s (Place ∷ s) fit (λ p next h. k p s next h) }
 
-  array_pushed : (i : Instr) → names_fit code.variables f.slots i ≡ true → ((p : ℕ) (t : List Operand) (next : ℕ → List Operand → Bool) → next (p + 1) (ArrayLength ∷ ArrayPlace ∷ t) ≡ true → follows code f i p t next ≡ true) → Pushes code f (one i) (ArrayPlace ∷ ArrayLength ∷ [])
+  array_pushed :
+      (i : Instr) → names_fit code.variables f.slots i ≡ true
+      → ((p : ℕ) (t : List Operand) (next : ℕ → List Operand → Bool) → next (p + 1) (ArrayLength ∷ ArrayPlace ∷ t) ≡ true → follows code f i p t next ≡ true)
+      → Pushes code f (one i) (ArrayPlace ∷ ArrayLength ∷ [])
   array_pushed i fit k = record { by = λ s. finds.single code f i s (ArrayLength ∷ ArrayPlace ∷ s) fit (λ p next h. k p s next h) }
 
   abbrev global_sized : ℕ → Option ℕ → Asm × ℕ
@@ -379,7 +413,9 @@ module _ (code : Code) (f : FunctionCode) (names : Names) (knows : Knows code f 
   abbrev changed : Slot → Bool → Option ℕ → Slot
   changed x b n = record x { array_param = b; length = n }
 
-  global_stacks : (i : ℕ) (o : Option Global) → slice_get names.globals i ≡ o → Stacks (sort_of_global o) (code_of.placed (one (instr.GlobalPlace (global_base i))) (code_of.global_argument sh (global_base i) o).0 (code_of.global_argument sh (global_base i) o).1 true)
+  global_stacks :
+      (i : ℕ) (o : Option Global) → slice_get names.globals i ≡ o
+      → Stacks (sort_of_global o) (code_of.placed (one (instr.GlobalPlace (global_base i))) (code_of.global_argument sh (global_base i) o).0 (code_of.global_argument sh (global_base i) o).1 true)
   global_stacks i None e = tt
   global_stacks i (Some g) e = by_length g.length refl
     where
@@ -387,11 +423,15 @@ module _ (code : Code) (f : FunctionCode) (names : Names) (knows : Knows code f 
       by_length None h = scalar_stacks (instr.GlobalPlace (global_base i)) g.of (place_pushed _ (knows.scalar_global i g e h) (λ p t next k. k))
       by_length (Some n) h = array_pushed (instr.GlobalArray (global_base i) n) (knows.array_global i n g e h) (λ p t next k. k)
 
-  slot_stacks : (i : ℕ) (o : Option Slot) → slice_get names.slots i ≡ o → Stacks (sort_of_slot o) (code_of.placed (one (instr.LocalPlace (slot_base i))) (code_of.slot_argument sh (slot_base i) o).0 (code_of.slot_argument sh (slot_base i) o).1 true)
+  slot_stacks :
+      (i : ℕ) (o : Option Slot) → slice_get names.slots i ≡ o
+      → Stacks (sort_of_slot o) (code_of.placed (one (instr.LocalPlace (slot_base i))) (code_of.slot_argument sh (slot_base i) o).0 (code_of.slot_argument sh (slot_base i) o).1 true)
   slot_stacks i None e = tt
   slot_stacks i (Some x) e = by_kind x.array_param x.length refl refl
     where
-      by_kind : (b : Bool) (n : Option ℕ) → x.array_param ≡ b → x.length ≡ n → Stacks (sort_of_slot (Some (changed x b n))) (code_of.placed (one (instr.LocalPlace (slot_base i))) (code_of.slot_argument sh (slot_base i) (Some (changed x b n))).0 (code_of.slot_argument sh (slot_base i) (Some (changed x b n))).1 true)
+      by_kind :
+          (b : Bool) (n : Option ℕ) → x.array_param ≡ b → x.length ≡ n
+          → Stacks (sort_of_slot (Some (changed x b n))) (code_of.placed (one (instr.LocalPlace (slot_base i))) (code_of.slot_argument sh (slot_base i) (Some (changed x b n))).0 (code_of.slot_argument sh (slot_base i) (Some (changed x b n))).1 true)
       by_kind true n h g = array_pushed (instr.ParamArray (slot_base i)) (knows.array_param i x e h) (λ p t next k. k)
       by_kind false None h g = scalar_stacks (instr.LocalPlace (slot_base i)) x.of (place_pushed _ (knows.scalar_slot i x e h g) (λ p t next k. k))
       by_kind false (Some n) h g = array_pushed (instr.LocalArray (slot_base i) n) (knows.array_slot i n x e h g) (λ p t next k. k)
@@ -402,7 +442,10 @@ module _ (code : Code) (f : FunctionCode) (names : Names) (knows : Knows code f 
 
   -- ---- elements
 
-  element : (index : TypedCode) (i : Instr) (of : Ctype) → ValueStacks code f index.part → names_fit code.variables f.slots i ≡ true → ((p : ℕ) (t : List Operand) (next : ℕ → List Operand → Bool) → taking (Value ∷ []) t (λ u. next (p + 1) (Place ∷ u)) ≡ true → follows code f i p t next ≡ true) → Stacks (typing.Value of true) (code_of.placed (index.part.value ⨾ one i) ((index.part.value ⨾ one i) ⨾ one instr.Load) 1 index.part.fits)
+  element :
+      (index : TypedCode) (i : Instr) (of : Ctype) → ValueStacks code f index.part → names_fit code.variables f.slots i ≡ true
+      → ((p : ℕ) (t : List Operand) (next : ℕ → List Operand → Bool) → taking (Value ∷ []) t (λ u. next (p + 1) (Place ∷ u)) ≡ true → follows code f i p t next ≡ true)
+      → Stacks (typing.Value of true) (code_of.placed (index.part.value ⨾ one i) ((index.part.value ⨾ one i) ⨾ one instr.Load) 1 index.part.fits)
   element index i of x fit k =
       let place : Pushes code f (index.part.value ⨾ one i) (Place ∷ []) = record { by = λ s. finds.seq code f (x.value.by s) (finds.single code f i (Value ∷ s) (Place ∷ s) fit (λ p next h. k p (Value ∷ s) next h)) } in
       (placed_stacks code f (index.part.value ⨾ one i) ((index.part.value ⨾ one i) ⨾ one instr.Load) index.part.fits place (record { by = λ s. finds.seq code f (place.by s) (load code f s) }), place)
@@ -410,7 +453,9 @@ module _ (code : Code) (f : FunctionCode) (names : Names) (knows : Knows code f 
   abbrev At : TypedCode → Instr → ExprCode
   At index i = code_of.placed (index.part.value ⨾ one i) ((index.part.value ⨾ one i) ⨾ one instr.Load) 1 index.part.fits
 
-  global_element : (index : TypedCode) → ValueStacks code f index.part → (i : ℕ) (o : Option Global) → slice_get names.globals i ≡ o → Stacks (element_of (sort_of_global o)) (At index (code_of.at_global sh (global_base i) o))
+  global_element :
+      (index : TypedCode) → ValueStacks code f index.part → (i : ℕ) (o : Option Global) → slice_get names.globals i ≡ o
+      → Stacks (element_of (sort_of_global o)) (At index (code_of.at_global sh (global_base i) o))
   global_element index x i None e = tt
   global_element index x i (Some g) e = by_length g.length refl
     where
@@ -418,11 +463,15 @@ module _ (code : Code) (f : FunctionCode) (names : Names) (knows : Knows code f 
       by_length None h = tt
       by_length (Some n) h = element index (instr.GlobalAt (global_base i) n) g.of x (knows.array_global i n g e h) (λ p t next k. k)
 
-  slot_element : (index : TypedCode) → ValueStacks code f index.part → (i : ℕ) (o : Option Slot) → slice_get names.slots i ≡ o → Stacks (element_of (sort_of_slot o)) (At index (code_of.at_slot sh (slot_base i) o))
+  slot_element :
+      (index : TypedCode) → ValueStacks code f index.part → (i : ℕ) (o : Option Slot) → slice_get names.slots i ≡ o
+      → Stacks (element_of (sort_of_slot o)) (At index (code_of.at_slot sh (slot_base i) o))
   slot_element index x i None e = tt
   slot_element index x i (Some y) e = by_kind y.array_param y.length refl refl
     where
-      by_kind : (b : Bool) (n : Option ℕ) → y.array_param ≡ b → y.length ≡ n → Stacks (element_of (sort_of_slot (Some (changed y b n)))) (At index (code_of.at_slot sh (slot_base i) (Some (changed y b n))))
+      by_kind :
+          (b : Bool) (n : Option ℕ) → y.array_param ≡ b → y.length ≡ n
+          → Stacks (element_of (sort_of_slot (Some (changed y b n)))) (At index (code_of.at_slot sh (slot_base i) (Some (changed y b n))))
       by_kind true n h g = element index (instr.ParamAt (slot_base i)) y.of x (knows.array_param i y e h) (λ p t next k. k)
       by_kind false None h g = tt
       by_kind false (Some n) h g = element index (instr.LocalAt (slot_base i) n) y.of x (knows.array_slot i n y e h g) (λ p t next k. k)
@@ -467,7 +516,9 @@ module _ (code : Code) (f : FunctionCode) (names : Names) (knows : Knows code f 
   valued : (of : Ctype) (asm : Asm) (fits : Bool) → Pushes code f asm (Value ∷ []) → Stacks (typing.Value of false) (code_of.valued asm fits)
   valued of asm fits x = (valued_stacks code f asm fits x, tt)
 
-  step_stacks : (y : Layer) (written : Option Ctype) → Stacks (sort_step names (map-PKind PKind PExpr (Option Ctype → Sort) Sort kind_sort (sort_of names) (map-PKind ((k : PKind) × KindStacks k) Child PKind PExpr (λ k. k.0) (λ e. e.0) y)) written) (code_of.kind_step sh (map-PKind PKind PExpr ExprCode TypedCode (kind_code sh) (typed_code sh) (map-PKind ((k : PKind) × KindStacks k) Child PKind PExpr (λ k. k.0) (λ e. e.0) y)))
+  step_stacks :
+      (y : Layer) (written : Option Ctype)
+      → Stacks (sort_step names (map-PKind PKind PExpr (Option Ctype → Sort) Sort kind_sort (sort_of names) (map-PKind ((k : PKind) × KindStacks k) Child PKind PExpr (λ k. k.0) (λ e. e.0) y)) written) (code_of.kind_step sh (map-PKind PKind PExpr ExprCode TypedCode (kind_code sh) (typed_code sh) (map-PKind ((k : PKind) × KindStacks k) Child PKind PExpr (λ k. k.0) (λ e. e.0) y)))
   step_stacks (PKind-F.Const bits) written = const_stacks code f known_texts written _ (valued_stacks code f _ true (pushes_bits code f bits))
   step_stacks (PKind-F.Text text) written = where_true_stacks code f known_texts _ (Text text) _ (λ h. (refl, h))
   step_stacks (PKind-F.Name what) written = name_stacks what

@@ -47,7 +47,9 @@ module _ (code : Code) (f : FunctionCode) where
   abbrev pub FollowsWell : ℕ → Instr → ℕ → List Operand → Type 0
   FollowsWell n i p s = (m : ℕ) → suc m ≤ n → follows code f i p s (λ q t. finds code f m q t) ≡ true
 
-  pub at : (n p : ℕ) (s : List Operand) (i : Instr) (entered : List (List ℕ)) → slice_get f.steps p ≡ Some (record { instr = i; entered = entered }) → names_fit code.variables f.slots i ≡ true → FollowsWell n i p s → Finds n p s
+  pub at :
+      (n p : ℕ) (s : List Operand) (i : Instr) (entered : List (List ℕ)) → slice_get f.steps p ≡ Some (record { instr = i; entered = entered }) → names_fit code.variables f.slots i ≡ true
+      → FollowsWell n i p s → Finds n p s
   at n p s i entered e fit h = record { by = λ m le. by_count m le }
     where
       by_count : (m : ℕ) → m ≤ n → finds code f m p s ≡ true
@@ -83,7 +85,9 @@ module _ (code : Code) (f : FunctionCode) where
   pub jump_at : (n p target : ℕ) (s : List Operand) (entered : List (List ℕ)) → slice_get f.steps p ≡ Some (record { instr = instr.Jump target; entered = entered }) → Finds n target s → Finds n p s
   jump_at n p target s entered e h = at n p s (instr.Jump target) entered e refl (λ m le. h.by m (omega (arith, le)))
 
-  pub test_at : (n p target : ℕ) (s : List Operand) (entered : List (List ℕ)) → slice_get f.steps p ≡ Some (record { instr = instr.JumpZero target; entered = entered }) → Finds n (p + 1) s → Finds n target s → Finds n p (Value ∷ s)
+  pub test_at :
+      (n p target : ℕ) (s : List Operand) (entered : List (List ℕ)) → slice_get f.steps p ≡ Some (record { instr = instr.JumpZero target; entered = entered }) → Finds n (p + 1) s
+      → Finds n target s → Finds n p (Value ∷ s)
   test_at n p target s entered e h g =
       at n p (Value ∷ s) (instr.JumpZero target) entered e refl (λ m le. and_true _ _ (h.by m (omega (arith, le))) (g.by m (omega (arith, le))))
 

@@ -74,7 +74,9 @@ or_right true b h = refl
 or_right false b h = h
 
 -- a test that a global meets at its place
-pub global_at : (t : ℕ → Variable → Bool) (gs : List Global) (base i : ℕ) (g : Global) → slice_get gs i ≡ Some g → ((place : ℕ) → t place (variable_of_global place g) ≡ true) → list_any (t (base + words_before words_of_global gs i)) (globals_from base gs) ≡ true
+pub global_at :
+    (t : ℕ → Variable → Bool) (gs : List Global) (base i : ℕ) (g : Global) → slice_get gs i ≡ Some g → ((place : ℕ) → t place (variable_of_global place g) ≡ true)
+    → list_any (t (base + words_before words_of_global gs i)) (globals_from base gs) ≡ true
 global_at t [] base i g e h = cc
 global_at t (x ∷ gs) base zero g e h =
     let same : x ≡ g = cc in
@@ -84,7 +86,9 @@ global_at t (x ∷ gs) base (suc i) g e h =
     let n : base + (words_of_global x + words_before words_of_global gs i) ≡ base + words_of_global x + words_before words_of_global gs i = omega arith in
     or_right _ _ (subst (λ k. list_any (t k) (globals_from (base + words_of_global x) gs) ≡ true) (sym n) (global_at t gs (base + words_of_global x) i g e h))
 
-pub slot_at : (t : ℕ → Variable → Bool) (xs : List Slot) (base i : ℕ) (x : Slot) → slice_get xs i ≡ Some x → ((place : ℕ) → t place (variable_of_slot place x) ≡ true) → list_any (t (base + words_before words_of_slot xs i)) (slots_from base xs) ≡ true
+pub slot_at :
+    (t : ℕ → Variable → Bool) (xs : List Slot) (base i : ℕ) (x : Slot) → slice_get xs i ≡ Some x → ((place : ℕ) → t place (variable_of_slot place x) ≡ true)
+    → list_any (t (base + words_before words_of_slot xs i)) (slots_from base xs) ≡ true
 slot_at t [] base i x e h = cc
 slot_at t (y ∷ xs) base zero x e h =
     let same : y ≡ x = cc in
@@ -110,7 +114,9 @@ of_false true h = cc
 of_false false h = refl
 
 module _ (gs : List Global) where
-  from_zero : (t : ℕ → Variable → Bool) (i : ℕ) (g : Global) → slice_get gs i ≡ Some g → ((place : ℕ) → t place (variable_of_global place g) ≡ true) → list_any (t (words_before words_of_global gs i)) (globals_from 0 gs) ≡ true
+  from_zero :
+      (t : ℕ → Variable → Bool) (i : ℕ) (g : Global) → slice_get gs i ≡ Some g → ((place : ℕ) → t place (variable_of_global place g) ≡ true)
+      → list_any (t (words_before words_of_global gs i)) (globals_from 0 gs) ≡ true
   from_zero t i g e h =
       let n : 0 + words_before words_of_global gs i ≡ words_before words_of_global gs i = omega arith in
       subst (λ k. list_any (t k) (globals_from 0 gs) ≡ true) n (global_at t gs 0 i g e h)
@@ -122,7 +128,9 @@ module _ (gs : List Global) where
   array_global i n g e h = from_zero (λ place. is_array_at place n) i g e (λ place. and_true _ _ (and_true _ _ (itself place) refl) (of_some n g.length h))
 
 module _ (xs : List Slot) where
-  slot_from_zero : (t : ℕ → Variable → Bool) (i : ℕ) (x : Slot) → slice_get xs i ≡ Some x → ((place : ℕ) → t place (variable_of_slot place x) ≡ true) → list_any (t (words_before words_of_slot xs i)) (slots_from 0 xs) ≡ true
+  slot_from_zero :
+      (t : ℕ → Variable → Bool) (i : ℕ) (x : Slot) → slice_get xs i ≡ Some x → ((place : ℕ) → t place (variable_of_slot place x) ≡ true)
+      → list_any (t (words_before words_of_slot xs i)) (slots_from 0 xs) ≡ true
   slot_from_zero t i x e h =
       let n : 0 + words_before words_of_slot xs i ≡ words_before words_of_slot xs i = omega arith in
       subst (λ k. list_any (t k) (slots_from 0 xs) ≡ true) n (slot_at t xs 0 i x e h)
@@ -149,7 +157,9 @@ pub param_operands_are : (ps : List Slot) (base : ℕ) → operands_of (slots_fr
 param_operands_are [] base = refl
 param_operands_are (p ∷ ps) base = by_kind p.array_param (param_operands_are ps (base + words_of_slot p))
   where
-    by_kind : (b : Bool) → operands_of (slots_from (base + words_of_slot p) ps) ≡ param_operands ps → ◌≡◌ {A = List Operand} (elim b [ true ↦ ArrayPlace ∷ ArrayLength ∷ operands_of (slots_from (base + words_of_slot p) ps) | false ↦ Value ∷ operands_of (slots_from (base + words_of_slot p) ps) ]) (elim b [ true ↦ ArrayPlace ∷ ArrayLength ∷ param_operands ps | false ↦ Value ∷ param_operands ps ])
+    by_kind :
+        (b : Bool) → operands_of (slots_from (base + words_of_slot p) ps) ≡ param_operands ps
+        → ◌≡◌ {A = List Operand} (elim b [ true ↦ ArrayPlace ∷ ArrayLength ∷ operands_of (slots_from (base + words_of_slot p) ps) | false ↦ Value ∷ operands_of (slots_from (base + words_of_slot p) ps) ]) (elim b [ true ↦ ArrayPlace ∷ ArrayLength ∷ param_operands ps | false ↦ Value ∷ param_operands ps ])
     by_kind true h = ap (λ l. ArrayPlace ∷ ArrayLength ∷ l) h
     by_kind false h = ap (λ l. Value ∷ l) h
 

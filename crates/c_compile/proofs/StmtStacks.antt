@@ -120,7 +120,9 @@ module _ (code : Code) (f : FunctionCode) (names : Names) (knows : Knows code f 
   abbrev pub is_local : ℕ → Bool
   is_local i = elim (slice_get names.slots i) [ None ↦ false | Some x ↦ not x.array_param ]
 
-  zero_at : (i : ℕ) (o : Option Slot) → slice_get names.slots i ≡ o → is_local i ≡ true → (blocks : Blocks) (p q n : ℕ) → Lies p q (zero_by sh o (words_before words_of_slot names.slots i) blocks p) → It n q [] → It n p []
+  zero_at :
+      (i : ℕ) (o : Option Slot) → slice_get names.slots i ≡ o → is_local i ≡ true → (blocks : Blocks) (p q n : ℕ)
+      → Lies p q (zero_by sh o (words_before words_of_slot names.slots i) blocks p) → It n q [] → It n p []
   zero_at i None e l blocks p q n h g = moved h g
   zero_at i (Some x) e l blocks p q n h g =
       let scalar = subst (λ (o : Option Slot). elim o [ None ↦ false | Some x ↦ not x.array_param ] ≡ true) e l in
@@ -137,7 +139,6 @@ module _ (code : Code) (f : FunctionCode) (names : Names) (knows : Knows code f 
       let s = split_at f.steps (a p) (zeros sh xs blocks m) p q h in
       zero_at x.slot (slice_get names.slots x.slot) refl b.0 blocks p m n s.0 (zeros_at xs b.1 blocks m q n s.1 g)
 
-
   -- a scalar's place is that of a scalar
   scalar_fits : (i : ℕ) (o : Option Slot) → slice_get names.slots i ≡ o → is_scalar names result o ≡ true → list_any (is_scalar_at (words_before words_of_slot names.slots i)) f.slots ≡ true
   scalar_fits i None e h = cc
@@ -146,7 +147,10 @@ module _ (code : Code) (f : FunctionCode) (names : Names) (knows : Knows code f 
       knows.scalar_slot i x e (turned x.array_param b.0) (nothing_there x.length b.1)
 
   -- an initialiser's value is stored in a local
-  stored_at : (i : ℕ) → is_scalar names result (slice_get names.slots i) ≡ true → (blocks : Blocks) (p q n : ℕ) → Lies p q ((put blocks (instr.LocalPlace (words_before words_of_slot names.slots i)) ⨾ (put blocks instr.Swap ⨾ (put blocks instr.Store ⨾ put blocks instr.Drop))) p) → It n q [] → It n p (Value ∷ [])
+  stored_at :
+      (i : ℕ) → is_scalar names result (slice_get names.slots i) ≡ true → (blocks : Blocks) (p q n : ℕ)
+      → Lies p q ((put blocks (instr.LocalPlace (words_before words_of_slot names.slots i)) ⨾ (put blocks instr.Swap ⨾ (put blocks instr.Store ⨾ put blocks instr.Drop))) p) → It n q []
+      → It n p (Value ∷ [])
   stored_at i l blocks p q n h g =
       let place = words_before words_of_slot names.slots i in
       let fit = scalar_fits i (slice_get names.slots i) refl l in
@@ -154,7 +158,9 @@ module _ (code : Code) (f : FunctionCode) (names : Names) (knows : Knows code f 
       let rest = finds.seq code f (exprs.place_below code f []) (finds.seq code f (exprs.store code f []) (exprs.drop_value code f [])) in
       (finds.seq code f first rest).by blocks p q n h g
 
-  start_at : (x : Start) (o : Option PExpr) → start_fits names result (record x { value = o }) ≡ true → (blocks : Blocks) (p q n : ℕ) → Lies p q (start_by sh x.slot x.line o blocks p) → It n q [] → It n p []
+  start_at :
+      (x : Start) (o : Option PExpr) → start_fits names result (record x { value = o }) ≡ true → (blocks : Blocks) (p q n : ℕ) → Lies p q (start_by sh x.slot x.line o blocks p) → It n q []
+      → It n p []
   start_at x None v blocks p q n h g = moved h g
   start_at x (Some e) v blocks p q n h g =
       let fit = both_true (value_fits names result e) (is_scalar names result (slice_get names.slots x.slot)) v in
@@ -172,7 +178,9 @@ module _ (code : Code) (f : FunctionCode) (names : Names) (knows : Knows code f 
       let s = split_at f.steps (a p) (starts sh xs blocks m) p q h in
       start_at x x.value fit.0 blocks p m n s.0 (starts_at xs fit.1 blocks m q n s.1 g)
 
-  pub block_passes : (locals : List Start) (cs : List StmtCode) → AllPass cs → list_all (start_fits names result) locals ≡ true → list_all is_local (map (λ x. x.slot) locals) ≡ true → Passes (block_code sh locals cs)
+  pub block_passes :
+      (locals : List Start) (cs : List StmtCode) → AllPass cs → list_all (start_fits names result) locals ≡ true → list_all is_local (map (λ x. x.slot) locals) ≡ true
+      → Passes (block_code sh locals cs)
   block_passes locals cs r v l exits blocks p q n h g b c =
       let inner = map (λ x. x.slot) locals ∷ blocks in
       let m = end_of (zeros sh locals inner) p in
@@ -208,7 +216,9 @@ module _ (code : Code) (f : FunctionCode) (names : Names) (knows : Knows code f 
   effect_end blocks (Some e) p =
       omega (arith, length-append (value_code sh e blocks p) (record { instr = instr.Drop; entered = blocks } ∷ []), value_end blocks e p)
 
-  pub if_passes : (test : PExpr) (x : StmtCode) (o : Option StmtCode) (line : ℕ) → StmtPasses x → ElsePasses o → value_fits names result test ≡ true → Passes (λ exits blocks. put blocks (instr.Line line) ⨾ if_code sh test x o exits blocks)
+  pub if_passes :
+      (test : PExpr) (x : StmtCode) (o : Option StmtCode) (line : ℕ) → StmtPasses x → ElsePasses o → value_fits names result test ≡ true
+      → Passes (λ exits blocks. put blocks (instr.Line line) ⨾ if_code sh test x o exits blocks)
   if_passes test x o line r e v exits blocks p q n h g b c =
       let m0 = end_of (expr_code sh test).value (p + 1) in
       let b0 = x.ends (m0 + 1) + 1 in
@@ -246,10 +256,10 @@ module _ (code : Code) (f : FunctionCode) (names : Names) (knows : Knows code f 
       let s2 = split_at f.steps (x.code exits0 blocks e) (put blocks (instr.Jump p) back) e q s1.1 in
       let q_is : back0 + 1 ≡ q = ap (λ k. k + 1) (sym back_is) ∙ s2.1.1 in
       round line blocks h.0 (λ n g again.
-        let out = moved q_is g in
-        let turn = finds.jump_at code f n back p [] blocks s2.1.0 again in
-        let body = r.passes exits0 blocks e back n s2.0 turn out (moved (sym back_is) turn) in
-        test_at (Some test) v (back0 + 1) blocks (p + 1) e n s1.0 body out) n g
+      let out = moved q_is g in
+      let turn = finds.jump_at code f n back p [] blocks s2.1.0 again in
+      let body = r.passes exits0 blocks e back n s2.0 turn out (moved (sym back_is) turn) in
+      test_at (Some test) v (back0 + 1) blocks (p + 1) e n s1.0 body out) n g
 
   pub do_passes : (test : PExpr) (x : StmtCode) (line : ℕ) → StmtPasses x → value_fits names result test ≡ true → Passes (λ exits blocks. do_code sh x test line blocks)
   do_passes test x line r v exits blocks p q n h g b c =
@@ -266,12 +276,14 @@ module _ (code : Code) (f : FunctionCode) (names : Names) (knows : Knows code f 
       let s2 = split_at f.steps (test0 again) (put blocks (instr.Jump p) back) again q s1.1 in
       let q_is : back0 + 1 ≡ q = ap (λ k. k + 1) (sym back_is) ∙ s2.1.1 in
       round line blocks h.0 (λ n g first.
-        let out = moved q_is g in
-        let turn = finds.jump_at code f n back p [] blocks s2.1.0 first in
-        let tests = test_at (Some test) v (back0 + 1) blocks again back n s2.0 turn out in
-        r.passes exits0 blocks (p + 1) again n s1.0 tests out (moved (sym again_is) tests)) n g
+      let out = moved q_is g in
+      let turn = finds.jump_at code f n back p [] blocks s2.1.0 first in
+      let tests = test_at (Some test) v (back0 + 1) blocks again back n s2.0 turn out in
+      r.passes exits0 blocks (p + 1) again n s1.0 tests out (moved (sym again_is) tests)) n g
 
-  pub for_passes : (first test third : Option PExpr) (x : StmtCode) (line : ℕ) → StmtPasses x → effect_fits names result first ≡ true → test_fits names result test ≡ true → effect_fits names result third ≡ true → Passes (λ exits blocks. for_code sh first test third x line blocks)
+  pub for_passes :
+      (first test third : Option PExpr) (x : StmtCode) (line : ℕ) → StmtPasses x → effect_fits names result first ≡ true → test_fits names result test ≡ true
+      → effect_fits names result third ≡ true → Passes (λ exits blocks. for_code sh first test third x line blocks)
   for_passes first test third x line r v1 v2 v3 exits blocks p q n h g b c =
       let top0 = effect_ends sh first (p + 1) + 1 in
       let again0 = x.ends (test_ends sh test (top0 + 1)) in
@@ -298,11 +310,11 @@ module _ (code : Code) (f : FunctionCode) (names : Names) (knows : Knows code f 
       let s4 = split_at f.steps (third0 again) (put blocks (instr.Jump top0) back) again q s3.1 in
       let q_is : back0 + 1 ≡ q = ap (λ k. k + 1) (sym back_is) ∙ s4.1.1 in
       let inside = λ (n : ℕ) (g : It n q []) (later : It n top []).
-        let out = moved q_is g in
-        let turn = finds.jump_at code f n back top0 [] blocks s4.1.0 (moved (sym top_is) later) in
-        let thirds = effect_at third v3 blocks again back n s4.0 turn in
-        let body = r.passes exits0 blocks e again n s3.0 thirds out (moved (sym again_is) thirds) in
-        test_at test v2 (back0 + 1) blocks (top + 1) e n s2.0 body out in
+      let out = moved q_is g in
+      let turn = finds.jump_at code f n back top0 [] blocks s4.1.0 (moved (sym top_is) later) in
+      let thirds = effect_at third v3 blocks again back n s4.0 turn in
+      let body = r.passes exits0 blocks e again n s3.0 thirds out (moved (sym again_is) thirds) in
+      test_at test v2 (back0 + 1) blocks (top + 1) e n s2.0 body out in
       let tests = inside n g (round line blocks s1.1.1.0 inside n g) in
       let over = finds.jump_at code f n a (top0 + 1) [] blocks s1.1.0 (moved (ap (λ k. k + 1) (sym top_is)) tests) in
       at_line n p line blocks h.0 (effect_at first v1 blocks (p + 1) a n s1.0 over)
@@ -315,10 +327,13 @@ module _ (code : Code) (f : FunctionCode) (names : Names) (knows : Knows code f 
 
   -- ---- ways out
 
-  pub exit_passes : (line : ℕ) (to : Exits → ℕ) (leads : (exits : Exits) (n : ℕ) → It n exits.breaks [] → It n exits.continues [] → It n (to exits) []) → Passes (λ exits blocks. put blocks (instr.Line line) ⨾ put blocks (instr.Jump (to exits)))
+  pub exit_passes :
+      (line : ℕ) (to : Exits → ℕ) (leads : (exits : Exits) (n : ℕ) → It n exits.breaks [] → It n exits.continues [] → It n (to exits) [])
+      → Passes (λ exits blocks. put blocks (instr.Line line) ⨾ put blocks (instr.Jump (to exits)))
   exit_passes line to leads exits blocks p q n h g b c = at_line n p line blocks h.0 (finds.jump_at code f n (p + 1) (to exits) [] blocks h.1.0 (leads exits n b c))
 
-  pub return_passes : (o : Option PExpr) (line : ℕ) → return_fits names result o ≡ true → Passes (λ exits blocks. put blocks (instr.Line line) ⨾ (code_of.returned sh o blocks ⨾ put blocks instr.Return))
+  pub return_passes :
+      (o : Option PExpr) (line : ℕ) → return_fits names result o ≡ true → Passes (λ exits blocks. put blocks (instr.Line line) ⨾ (code_of.returned sh o blocks ⨾ put blocks instr.Return))
   return_passes None line v exits blocks p q n h g b c =
       at_line n p line blocks h.0 (push_at n (p + 1) 0 [] blocks h.1.0 (return_at n (p + 1 + 1) blocks h.1.1.0))
   return_passes (Some e) line v exits blocks p q n h g b c =
@@ -367,7 +382,9 @@ module _ (code : Code) (f : FunctionCode) (names : Names) (knows : Knows code f 
   first_target n [] start t = t
   first_target n (c ∷ cs) start t = t.0
 
-  arms_targets : (cs : List ArmCode) → AllArms cs → (exits : Exits) (blocks : Blocks) (p q n : ℕ) → Lies p q (arms_code sh cs exits blocks p) → It n q [] → It n exits.breaks [] → It n exits.continues [] → Targets n cs p
+  arms_targets :
+      (cs : List ArmCode) → AllArms cs → (exits : Exits) (blocks : Blocks) (p q n : ℕ) → Lies p q (arms_code sh cs exits blocks p) → It n q [] → It n exits.breaks []
+      → It n exits.continues [] → Targets n cs p
   arms_targets [] r exits blocks p q n h g b c = moved h g
   arms_targets (x ∷ xs) r exits blocks p q n h g b c =
       let m = end_of (x.code exits blocks) p in
@@ -442,7 +459,9 @@ module _ (code : Code) (f : FunctionCode) (names : Names) (knows : Knows code f 
 
   -- ---- functions
 
-  pub function_finds : (c : StmtCode) (line : ℕ) → Passes c.body → ((exits : Exits) (blocks : Blocks) (p : ℕ) → end_of (c.body exits blocks) p ≡ c.ends p) → Lies 0 (length f.steps) (code_of.body_code sh c line 0) → (n : ℕ) → It n 0 []
+  pub function_finds :
+      (c : StmtCode) (line : ℕ) → Passes c.body → ((exits : Exits) (blocks : Blocks) (p : ℕ) → end_of (c.body exits blocks) p ≡ c.ends p)
+      → Lies 0 (length f.steps) (code_of.body_code sh c line 0) → (n : ℕ) → It n 0 []
   function_finds c line r ends lies n =
       let after = c.ends (0 + 1) in
       let exits : Exits = record { breaks = after; continues = after } in

@@ -59,17 +59,23 @@ module _ (code : Code) (f : FunctionCode) (names : Names) (knows : Knows code f 
     abbrev ArmChild : Type 0
     ArmChild = (x : PArm) × ArmOk x
 
-    whole : (x : Child) (around : Around) → (check_of names result x.0).is_fine around ≡ true → all_local (check_of names result x.0).blocks ≡ true → StmtPasses code f names knows result (stmt_code sh x.0)
+    whole :
+        (x : Child) (around : Around) → (check_of names result x.0).is_fine around ≡ true → all_local (check_of names result x.0).blocks ≡ true
+        → StmtPasses code f names knows result (stmt_code sh x.0)
     whole x around h l = let t = x.1 around h l in record { passes = t.passes; body_passes = t.body_passes; ends = ends x.0 }
 
-    all_pass : (xs : List Child) (around : Around) → all_fine (map (check_of names result) (map (λ x. x.0) xs)) around ≡ true → all_local (blocks_of (map (check_of names result) (map (λ x. x.0) xs))) ≡ true → AllPass code f names knows result (map (stmt_code sh) (map (λ x. x.0) xs))
+    all_pass :
+        (xs : List Child) (around : Around) → all_fine (map (check_of names result) (map (λ x. x.0) xs)) around ≡ true
+        → all_local (blocks_of (map (check_of names result) (map (λ x. x.0) xs))) ≡ true → AllPass code f names knows result (map (stmt_code sh) (map (λ x. x.0) xs))
     all_pass [] around h l = tt
     all_pass (x ∷ xs) around h l =
         let b = both_true _ _ h in
         let c = both_lists _ (check_of names result x.0).blocks (blocks_of (map (check_of names result) (map (λ x. x.0) xs))) l in
         (whole x around b.0 c.0, all_pass xs around b.1 c.1)
 
-    all_arms : (xs : List ArmChild) (around : Around) → arms_fine (map arm_check (map (λ x. x.0) xs)) around ≡ true → all_local (blocks_of_arms (map arm_check (map (λ x. x.0) xs))) ≡ true → AllArms code f names knows result (map (arm_code sh) (map (λ x. x.0) xs))
+    all_arms :
+        (xs : List ArmChild) (around : Around) → arms_fine (map arm_check (map (λ x. x.0) xs)) around ≡ true → all_local (blocks_of_arms (map arm_check (map (λ x. x.0) xs))) ≡ true
+        → AllArms code f names knows result (map (arm_code sh) (map (λ x. x.0) xs))
     all_arms [] around h l = tt
     all_arms (x ∷ xs) around h l =
         let b = both_true _ _ h in
@@ -103,7 +109,9 @@ module _ (code : Code) (f : FunctionCode) (names : Names) (knows : Knows code f 
     abbrev checked : Layer → StmtCheck
     checked y = check_step names result (map-PStmt PStmt PArm StmtCheck ArmCheck (check_of names result) arm_check (map-PStmt Child ArmChild PStmt PArm (λ x. x.0) (λ x. x.0) y))
 
-    step_ok : (y : Layer) (around : Around) → (checked y).is_fine around ≡ true → all_local (checked y).blocks ≡ true → TreePasses (code_of.stmt_step sh (map-PStmt PStmt PArm StmtCode ArmCode (stmt_code sh) (arm_code sh) (map-PStmt Child ArmChild PStmt PArm (λ x. x.0) (λ x. x.0) y)))
+    step_ok :
+        (y : Layer) (around : Around) → (checked y).is_fine around ≡ true → all_local (checked y).blocks ≡ true
+        → TreePasses (code_of.stmt_step sh (map-PStmt PStmt PArm StmtCode ArmCode (stmt_code sh) (arm_code sh) (map-PStmt Child ArmChild PStmt PArm (λ x. x.0) (λ x. x.0) y)))
     step_ok (PStmt-F.Block locals list line) around h l =
         let b = both_true _ _ h in
         let c = both_true _ _ l in
