@@ -23,6 +23,7 @@ use Rattle.c_compile.specs.ExprCode.{Shape, expr_code}
 use Rattle.c_compile.specs.StmtCode as code_of
 use Rattle.c_compile.specs.StmtCode.{Exits, Blocks, StmtCode, ArmCode, put, value_code, test_code, effect_code, zeros, zero_by, start_by, starts, sequence_code, block_code, else_code, else_ends, if_code, while_code, do_code, for_code, switch_code, case_code, cases_code, arms_cases, arms_code, arms_ends, place_of_label, test_ends, effect_ends}
 use Rattle.c_compile.proofs.Lies.{LiesAt, split_at, end_at, in_block_at, in_block_length}
+use Rattle.c_compile.proofs.Lengths as lengths
 use Rattle.c_compile.proofs.Parts.{both_true}
 use Rattle.c_compile.proofs.Finds as finds
 use Rattle.c_compile.proofs.Finds.{Finds, Leads}
@@ -203,19 +204,6 @@ module _ (code : Code) (f : FunctionCode) (names : Names) (knows : Knows code f 
   else_end None r exits blocks p = omega arith
   else_end (Some x) r exits blocks p = r.ends exits blocks p
 
-  value_end : (blocks : Blocks) (e : PExpr) (p : ℕ) → end_of (value_code sh e blocks) p ≡ end_of (expr_code sh e).value p
-  value_end blocks e p = ap (λ n. p + n) (in_block_length blocks ((expr_code sh e).value p))
-
-  test_end : (blocks : Blocks) (o : Option PExpr) (exit p : ℕ) → end_of (test_code sh o exit blocks) p ≡ test_ends sh o p
-  test_end blocks None exit p = omega arith
-  test_end blocks (Some e) exit p =
-      omega (arith, length-append (value_code sh e blocks p) (record { instr = instr.JumpZero exit; entered = blocks } ∷ []), value_end blocks e p)
-
-  effect_end : (blocks : Blocks) (o : Option PExpr) (p : ℕ) → end_of (effect_code sh o blocks) p ≡ effect_ends sh o p
-  effect_end blocks None p = omega arith
-  effect_end blocks (Some e) p =
-      omega (arith, length-append (value_code sh e blocks p) (record { instr = instr.Drop; entered = blocks } ∷ []), value_end blocks e p)
-
   pub if_passes :
       (test : PExpr) (x : StmtCode) (o : Option StmtCode) (line : ℕ) → StmtPasses x → ElsePasses o → value_fits names result test ≡ true
       → Passes (λ exits blocks. put blocks (instr.Line line) ⨾ if_code sh test x o exits blocks)
@@ -224,7 +212,7 @@ module _ (code : Code) (f : FunctionCode) (names : Names) (knows : Knows code f 
       let b0 = x.ends (m0 + 1) + 1 in
       let m = end_of (value_code sh test blocks) (p + 1) in
       let k = end_of (x.code exits blocks) (m + 1) in
-      let k_is : k + 1 ≡ b0 = ap (λ j. j + 1) (r.ends exits blocks (m + 1)) ∙ ap (λ j. x.ends (j + 1) + 1) (value_end blocks test (p + 1)) in
+      let k_is : k + 1 ≡ b0 = ap (λ j. j + 1) (r.ends exits blocks (m + 1)) ∙ ap (λ j. x.ends (j + 1) + 1) (lengths.value_end sh blocks test (p + 1)) in
       let tail2 = put blocks (instr.Jump (else_ends o b0)) ⨾ else_code o exits blocks in
       let tail1 = put blocks (instr.JumpZero b0) ⨾ (x.code exits blocks ⨾ tail2) in
       let s1 = split_at f.steps (value_code sh test blocks (p + 1)) (tail1 m) (p + 1) q h.1 in
@@ -250,7 +238,7 @@ module _ (code : Code) (f : FunctionCode) (names : Names) (knows : Knows code f 
       let test0 = test_code sh (Some test) (back0 + 1) blocks in
       let e = end_of test0 (p + 1) in
       let back = end_of (x.code exits0 blocks) e in
-      let back_is : back ≡ back0 = r.ends exits0 blocks e ∙ ap x.ends (test_end blocks (Some test) (back0 + 1) (p + 1)) in
+      let back_is : back ≡ back0 = r.ends exits0 blocks e ∙ ap x.ends (lengths.test_end sh blocks (Some test) (back0 + 1) (p + 1)) in
       let tail = x.code exits0 blocks ⨾ put blocks (instr.Jump p) in
       let s1 = split_at f.steps (test0 (p + 1)) (tail e) (p + 1) q h.1 in
       let s2 = split_at f.steps (x.code exits0 blocks e) (put blocks (instr.Jump p) back) e q s1.1 in
@@ -270,7 +258,7 @@ module _ (code : Code) (f : FunctionCode) (names : Names) (knows : Knows code f 
       let again = end_of (x.code exits0 blocks) (p + 1) in
       let back = end_of test0 again in
       let again_is : again ≡ again0 = r.ends exits0 blocks (p + 1) in
-      let back_is : back ≡ back0 = test_end blocks (Some test) (back0 + 1) again ∙ ap (test_ends sh (Some test)) again_is in
+      let back_is : back ≡ back0 = lengths.test_end sh blocks (Some test) (back0 + 1) again ∙ ap (test_ends sh (Some test)) again_is in
       let tail = test0 ⨾ put blocks (instr.Jump p) in
       let s1 = split_at f.steps (x.code exits0 blocks (p + 1)) (tail again) (p + 1) q h.1 in
       let s2 = split_at f.steps (test0 again) (put blocks (instr.Jump p) back) again q s1.1 in
@@ -301,9 +289,9 @@ module _ (code : Code) (f : FunctionCode) (names : Names) (knows : Knows code f 
       let e = end_of test0 (top + 1) in
       let again = end_of (x.code exits0 blocks) e in
       let back = end_of third0 again in
-      let top_is : top ≡ top0 = ap (λ k. k + 1) (effect_end blocks first (p + 1)) in
-      let again_is : again ≡ again0 = r.ends exits0 blocks e ∙ ap x.ends (test_end blocks test (back0 + 1) (top + 1)) ∙ ap (λ k. x.ends (test_ends sh test (k + 1))) top_is in
-      let back_is : back ≡ back0 = effect_end blocks third again ∙ ap (effect_ends sh third) again_is in
+      let top_is : top ≡ top0 = ap (λ k. k + 1) (lengths.effect_end sh blocks first (p + 1)) in
+      let again_is : again ≡ again0 = r.ends exits0 blocks e ∙ ap x.ends (lengths.test_end sh blocks test (back0 + 1) (top + 1)) ∙ ap (λ k. x.ends (test_ends sh test (k + 1))) top_is in
+      let back_is : back ≡ back0 = lengths.effect_end sh blocks third again ∙ ap (effect_ends sh third) again_is in
       let s1 = split_at f.steps (first0 (p + 1)) (tail1 a) (p + 1) q h.1 in
       let s2 = split_at f.steps (test0 (top + 1)) (tail3 e) (top + 1) q s1.1.1.1 in
       let s3 = split_at f.steps (x.code exits0 blocks e) (tail4 again) e q s2.1 in
@@ -408,33 +396,10 @@ module _ (code : Code) (f : FunctionCode) (names : Names) (knows : Knows code f 
       by_label true x = t.0
       by_label false x = x
 
-  end_of_seq : (a b : ℕ → List Placed) (p : ℕ) → end_of (a ⨾ b) p ≡ end_of b (end_of a p)
-  end_of_seq a b p = omega (arith, length-append (a p) (b (end_of a p)))
-
   arms_end : (cs : List ArmCode) → AllArms cs → (exits : Exits) (blocks : Blocks) (p : ℕ) → end_of (arms_code sh cs exits blocks) p ≡ arms_ends sh cs p
   arms_end [] r exits blocks p = omega arith
   arms_end (c ∷ cs) r exits blocks p =
-      end_of_seq (c.code exits blocks) (arms_code sh cs exits blocks) p ∙ arms_end cs r.1 exits blocks (end_of (c.code exits blocks) p) ∙ ap (arms_ends sh cs) (r.0.ends exits blocks p)
-
-  case_length : (o : Option ℕ) (t t' : ℕ) (a b : Blocks) (p : ℕ) → end_of (case_code sh o t a) p ≡ end_of (case_code sh o t' b) p
-  case_length None t t' a b p = refl
-  case_length (Some n) t t' a b p = refl
-
-  cases_length : (xs : List PLabel) (t t' : ℕ) (a b : Blocks) (p : ℕ) → end_of (cases_code sh xs t a) p ≡ end_of (cases_code sh xs t' b) p
-  cases_length [] t t' a b p = refl
-  cases_length (x ∷ xs) t t' a b p =
-      end_of_seq (case_code sh x.value t a) (cases_code sh xs t a) p
-      ∙ cases_length xs t t' a b (end_of (case_code sh x.value t a) p)
-      ∙ ap (λ n. end_of (cases_code sh xs t' b) n) (case_length x.value t t' a b p)
-      ∙ sym (end_of_seq (case_code sh x.value t' b) (cases_code sh xs t' b) p)
-
-  arms_cases_length : (cs : List ArmCode) (s s' : ℕ) (a b : Blocks) (p : ℕ) → end_of (arms_cases sh cs s a) p ≡ end_of (arms_cases sh cs s' b) p
-  arms_cases_length [] s s' a b p = refl
-  arms_cases_length (c ∷ cs) s s' a b p =
-      end_of_seq (cases_code sh c.labels s a) (arms_cases sh cs (c.ends s) a) p
-      ∙ arms_cases_length cs (c.ends s) (c.ends s') a b (end_of (cases_code sh c.labels s a) p)
-      ∙ ap (λ n. end_of (arms_cases sh cs (c.ends s') b) n) (cases_length c.labels s s' a b p)
-      ∙ sym (end_of_seq (cases_code sh c.labels s' b) (arms_cases sh cs (c.ends s') b) p)
+      lengths.end_of_seq (c.code exits blocks) (arms_code sh cs exits blocks) p ∙ arms_end cs r.1 exits blocks (end_of (c.code exits blocks) p) ∙ ap (arms_ends sh cs) (r.0.ends exits blocks p)
 
   pub switch_passes : (on : PExpr) (cs : List ArmCode) (line : ℕ) → AllArms cs → value_fits names result on ≡ true → Passes (switch_code sh on cs line)
   switch_passes on cs line r v exits blocks p q n h g b c =
@@ -449,7 +414,7 @@ module _ (code : Code) (f : FunctionCode) (names : Names) (knows : Knows code f 
       let tail1 = arms_cases sh cs start0 blocks ⨾ tail2 in
       let s1 = split_at f.steps (value_code sh on blocks (p + 1)) (tail1 m) (p + 1) q h.1 in
       let s2 = split_at f.steps (arms_cases sh cs start0 blocks m) (tail2 k) m q s1.1 in
-      let k_is : k ≡ end_of (arms_cases sh cs 0 []) cases0 = arms_cases_length cs start0 0 blocks [] m ∙ ap (λ n. end_of (arms_cases sh cs 0 []) n) (value_end blocks on (p + 1)) in
+      let k_is : k ≡ end_of (arms_cases sh cs 0 []) cases0 = lengths.arms_cases_length sh cs start0 0 blocks [] m ∙ ap (λ n. end_of (arms_cases sh cs 0 []) n) (lengths.value_end sh blocks on (p + 1)) in
       let start_is : start0 ≡ k + 1 + 1 = omega (arith, k_is) in
       let after_is : after0 ≡ q = ap (arms_ends sh cs) start_is ∙ sym (arms_end cs r inner blocks (k + 1 + 1)) ∙ end_at f.steps (arms_code sh cs inner blocks (k + 1 + 1)) (k + 1 + 1) q s2.1.1.1 in
       let targets = subst (λ j. Targets n cs j) (sym start_is) (arms_targets cs r inner blocks (k + 1 + 1) q n s2.1.1.1 g (moved after_is g) c) in
