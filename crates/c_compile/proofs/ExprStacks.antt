@@ -35,7 +35,7 @@ use Rattle.stack_code.specs.Valid.{Operand, Value, Place, ArrayPlace, ArrayLengt
 use Rattle.c_compile.specs.Asm.{Asm, nothing, one, ◌⨾◌, choose}
 use Rattle.c_compile.specs.ExprCode as code_of
 use Rattle.c_compile.specs.ExprCode.{Shape, ExprCode, TypedCode, kind_code, typed_code, expr_code, width_of}
-use Rattle.c_compile.proofs.Levels.{code_roll}
+use Rattle.c_compile.proofs.Levels.{code_roll, kind_sort, sort_roll}
 use Rattle.c_compile.proofs.Parts.{both_true}
 use Rattle.c_compile.proofs.Sorts.{and_true}
 use Rattle.c_compile.proofs.Finds as finds
@@ -482,26 +482,14 @@ module _ (code : Code) (f : FunctionCode) (names : Names) (knows : Knows code f 
 
   -- ---- the induction
 
-  abbrev kind_sort : PKind → Option Ctype → Sort
-  kind_sort k = laid-PKind (kinds (Option Ctype → Sort) Sort) (kind_steps (Option Ctype → Sort) Sort (sort_step names) (typed_step names)) k
-
-  sort_roll : (x : PKind-F PKind PExpr) → kind_sort (roll-PKind x) ≡ sort_step names (map-PKind PKind PExpr (Option Ctype → Sort) Sort kind_sort (sort_of names) x)
-  unfolding out-PKind roll-PKind out
-  sort_roll x =
-      let A = kinds (Option Ctype → Sort) Sort in
-      let S = kind_steps (Option Ctype → Sort) Sort (sort_step names) (typed_step names) in
-      lays-PKind A S (roll-PKind x)
-      ∙ ap (λ l. sort_step names ((body-PKind).map expr_family A (expr_fold A S) l)) (out-roll-PKind x)
-      ∙ ap (sort_step names) (map_is-PKind expr_family A (expr_fold A S) x)
-
   abbrev KindStacks : PKind → Type 0
-  KindStacks k = (written : Option Ctype) → Stacks (kind_sort k written) (kind_code sh k)
+  KindStacks k = (written : Option Ctype) → Stacks (kind_sort names k written) (kind_code sh k)
 
   abbrev Child : Type 0
   Child = (e : PExpr) × KindStacks e.kind
 
   child_stacks : (e : Child) → Stacks (sort_of names e.0) (typed_code sh e.0).part
-  child_stacks e = agreed_stacks code f known_texts (kind_sort e.0.kind e.0.of) e.0.of (kind_code sh e.0.kind) (e.1 e.0.of)
+  child_stacks e = agreed_stacks code f known_texts (kind_sort names e.0.kind e.0.of) e.0.of (kind_code sh e.0.kind) (e.1 e.0.of)
 
   all_stacks : (es : List Child) → AllStacks code f known_texts (map (sort_of names) (map (λ e. e.0) es)) (map (typed_code sh) (map (λ e. e.0) es))
   all_stacks [] = tt
@@ -518,7 +506,7 @@ module _ (code : Code) (f : FunctionCode) (names : Names) (knows : Knows code f 
 
   step_stacks :
       (y : Layer) (written : Option Ctype)
-      → Stacks (sort_step names (map-PKind PKind PExpr (Option Ctype → Sort) Sort kind_sort (sort_of names) (map-PKind ((k : PKind) × KindStacks k) Child PKind PExpr (λ k. k.0) (λ e. e.0) y)) written) (code_of.kind_step sh (map-PKind PKind PExpr ExprCode TypedCode (kind_code sh) (typed_code sh) (map-PKind ((k : PKind) × KindStacks k) Child PKind PExpr (λ k. k.0) (λ e. e.0) y)))
+      → Stacks (sort_step names (map-PKind PKind PExpr (Option Ctype → Sort) Sort (kind_sort names) (sort_of names) (map-PKind ((k : PKind) × KindStacks k) Child PKind PExpr (λ k. k.0) (λ e. e.0) y)) written) (code_of.kind_step sh (map-PKind PKind PExpr ExprCode TypedCode (kind_code sh) (typed_code sh) (map-PKind ((k : PKind) × KindStacks k) Child PKind PExpr (λ k. k.0) (λ e. e.0) y)))
   step_stacks (PKind-F.Const bits) written = const_stacks code f known_texts written _ (valued_stacks code f _ true (pushes_bits code f bits))
   step_stacks (PKind-F.Text text) written = where_true_stacks code f known_texts _ (Text text) _ (λ h. (refl, h))
   step_stacks (PKind-F.Name what) written = name_stacks what
@@ -547,7 +535,7 @@ module _ (code : Code) (f : FunctionCode) (names : Names) (knows : Knows code f 
   rolled : (y : Layer) → KindStacks (roll-PKind (map-PKind ((k : PKind) × KindStacks k) Child PKind PExpr (λ k. k.0) (λ e. e.0) y))
   rolled y written =
       let x = map-PKind ((k : PKind) × KindStacks k) Child PKind PExpr (λ k. k.0) (λ e. e.0) y in
-      subst (λ s. Stacks (s written) (kind_code sh (roll-PKind x))) (sym (sort_roll x)) (subst (λ c. Stacks (sort_step names (map-PKind PKind PExpr (Option Ctype → Sort) Sort kind_sort (sort_of names) x) written) c) (sym (code_roll sh x)) (step_stacks y written))
+      subst (λ s. Stacks (s written) (kind_code sh (roll-PKind x))) (sym (sort_roll names x)) (subst (λ c. Stacks (sort_step names (map-PKind PKind PExpr (Option Ctype → Sort) Sort (kind_sort names) (sort_of names) x) written) c) (sym (code_roll sh x)) (step_stacks y written))
 
   kind_stacks : (k : PKind) → KindStacks k
   kind_stacks = ind-PKind KindStacks (λ e. KindStacks e.kind) (λ x y is. subst (λ z. KindStacks (roll-PKind z)) is (rolled y)) (λ x y is. subst (λ (z : PExpr-F PKind PExpr). KindStacks z.kind) is y.kind.1)

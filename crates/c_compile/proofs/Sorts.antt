@@ -28,7 +28,7 @@ use Rattle.stack_code.specs.Machine.{conversions}
 use Rattle.c_compile.specs.Asm.{Asm, one}
 use Rattle.c_compile.specs.ExprCode as code_of
 use Rattle.c_compile.specs.ExprCode.{Shape, ExprCode, TypedCode, kind_code, typed_code, expr_code, width_of, all_fit}
-use Rattle.c_compile.proofs.Levels.{code_roll}
+use Rattle.c_compile.proofs.Levels.{code_roll, kind_sort, sort_roll}
 use Rattle.c_compile.proofs.Parts.{both_true}
 
 -- what the sort of an expression says of its code
@@ -265,26 +265,14 @@ module _ (names : Names) (params : (g : ℕ) (fn : Function) → slice_get names
 
   -- ---- the induction
 
-  abbrev kind_sort : PKind → Option Ctype → Sort
-  kind_sort k = laid-PKind (kinds (Option Ctype → Sort) Sort) (kind_steps (Option Ctype → Sort) Sort (sort_step names) (typed_step names)) k
-
-  sort_roll : (x : PKind-F PKind PExpr) → kind_sort (roll-PKind x) ≡ sort_step names (map-PKind PKind PExpr (Option Ctype → Sort) Sort kind_sort (sort_of names) x)
-  unfolding out-PKind roll-PKind out
-  sort_roll x =
-      let A = kinds (Option Ctype → Sort) Sort in
-      let S = kind_steps (Option Ctype → Sort) Sort (sort_step names) (typed_step names) in
-      lays-PKind A S (roll-PKind x)
-      ∙ ap (λ l. sort_step names ((body-PKind).map expr_family A (expr_fold A S) l)) (out-roll-PKind x)
-      ∙ ap (sort_step names) (map_is-PKind expr_family A (expr_fold A S) x)
-
   abbrev KindFits : PKind → Type 0
-  KindFits k = (written : Option Ctype) → SortFits (kind_sort k written) (kind_code sh k)
+  KindFits k = (written : Option Ctype) → SortFits (kind_sort names k written) (kind_code sh k)
 
   abbrev Child : Type 0
   Child = (e : PExpr) × KindFits e.kind
 
   child_fits : (e : Child) → SortFits (sort_of names e.0) (typed_code sh e.0).part
-  child_fits e = agreed_fits (kind_sort e.0.kind e.0.of) e.0.of (kind_code sh e.0.kind) (e.1 e.0.of)
+  child_fits e = agreed_fits (kind_sort names e.0.kind e.0.of) e.0.of (kind_code sh e.0.kind) (e.1 e.0.of)
 
   all_sorts : (es : List Child) → AllSorts (map (sort_of names) (map (λ e. e.0) es)) (map (typed_code sh) (map (λ e. e.0) es))
   all_sorts [] = tt
@@ -297,7 +285,7 @@ module _ (names : Names) (params : (g : ℕ) (fn : Function) → slice_get names
   const_fits None d f w = tt
   const_fits (Some of) d f w = (f, w)
 
-  step_fits : (y : Layer) (written : Option Ctype) → SortFits (sort_step names (map-PKind PKind PExpr (Option Ctype → Sort) Sort kind_sort (sort_of names) (map-PKind ((k : PKind) × KindFits k) Child PKind PExpr (λ k. k.0) (λ e. e.0) y)) written) (code_of.kind_step sh (map-PKind PKind PExpr ExprCode TypedCode (kind_code sh) (typed_code sh) (map-PKind ((k : PKind) × KindFits k) Child PKind PExpr (λ k. k.0) (λ e. e.0) y)))
+  step_fits : (y : Layer) (written : Option Ctype) → SortFits (sort_step names (map-PKind PKind PExpr (Option Ctype → Sort) Sort (kind_sort names) (sort_of names) (map-PKind ((k : PKind) × KindFits k) Child PKind PExpr (λ k. k.0) (λ e. e.0) y)) written) (code_of.kind_step sh (map-PKind PKind PExpr ExprCode TypedCode (kind_code sh) (typed_code sh) (map-PKind ((k : PKind) × KindFits k) Child PKind PExpr (λ k. k.0) (λ e. e.0) y)))
   step_fits (PKind-F.Const bits) written = const_fits written _ refl refl
   step_fits (PKind-F.Text text) written = where_true_fits _ (Text text) _ (λ _. refl)
   step_fits (PKind-F.Name what) written = name_fits what (one (code_of.place_instr sh what))
@@ -322,7 +310,7 @@ module _ (names : Names) (params : (g : ℕ) (fn : Function) → slice_get names
   rolled : (y : Layer) → KindFits (roll-PKind (map-PKind ((k : PKind) × KindFits k) Child PKind PExpr (λ k. k.0) (λ e. e.0) y))
   rolled y written =
       let x = map-PKind ((k : PKind) × KindFits k) Child PKind PExpr (λ k. k.0) (λ e. e.0) y in
-      subst (λ s. SortFits (s written) (kind_code sh (roll-PKind x))) (sym (sort_roll x)) (subst (λ c. SortFits (sort_step names (map-PKind PKind PExpr (Option Ctype → Sort) Sort kind_sort (sort_of names) x) written) c) (sym (code_roll sh x)) (step_fits y written))
+      subst (λ s. SortFits (s written) (kind_code sh (roll-PKind x))) (sym (sort_roll names x)) (subst (λ c. SortFits (sort_step names (map-PKind PKind PExpr (Option Ctype → Sort) Sort (kind_sort names) (sort_of names) x) written) c) (sym (code_roll sh x)) (step_fits y written))
 
   kind_fits : (k : PKind) → KindFits k
   kind_fits = ind-PKind KindFits (λ e. KindFits e.kind) (λ x y is. subst (λ z. KindFits (roll-PKind z)) is (rolled y)) (λ x y is. subst (λ (z : PExpr-F PKind PExpr). KindFits z.kind) is y.kind.1)

@@ -18,7 +18,7 @@ use Rattle.c_compile.specs.Asm.{end_of, ◌⨾◌}
 use Rattle.c_compile.specs.ExprCode.{Shape}
 use Rattle.c_compile.specs.StmtCode as code_of
 use Rattle.c_compile.specs.StmtCode.{Exits, Blocks, StmtCode, ArmCode, put, stmt_code, arm_code}
-use Rattle.c_compile.proofs.Levels.{stmt_code_roll, arm_code_roll}
+use Rattle.c_compile.proofs.Levels.{stmt_code_roll, arm_code_roll, arm_check, check_roll, arm_check_roll}
 use Rattle.c_compile.proofs.Parts.{both_true}
 use Rattle.c_compile.proofs.Finds as finds
 use Rattle.c_compile.proofs.ExprStacks.{Knows}
@@ -47,11 +47,8 @@ module _ (code : Code) (f : FunctionCode) (names : Names) (knows : Knows code f 
     abbrev StmtOk : PStmt → Type 0
     StmtOk x = (around : Around) → (check_of names result x).is_fine around ≡ true → all_local (check_of names result x).blocks ≡ true → TreePasses (stmt_code sh x)
 
-    abbrev arm_check : PArm → ArmCheck
-    arm_check x = laid-PArm (stmts StmtCheck ArmCheck) (stmt_steps StmtCheck ArmCheck (check_step names result) (arm_step names result)) x
-
     abbrev ArmOk : PArm → Type 0
-    ArmOk x = (around : Around) → (arm_check x).is_fine around ≡ true → all_local (arm_check x).blocks ≡ true → Passing (arm_code sh x).code
+    ArmOk x = (around : Around) → (arm_check names result x).is_fine around ≡ true → all_local (arm_check names result x).blocks ≡ true → Passing (arm_code sh x).code
 
     abbrev Child : Type 0
     Child = (x : PStmt) × StmtOk x
@@ -74,31 +71,13 @@ module _ (code : Code) (f : FunctionCode) (names : Names) (knows : Knows code f 
         (whole x around b.0 c.0, all_pass xs around b.1 c.1)
 
     all_arms :
-        (xs : List ArmChild) (around : Around) → arms_fine (map arm_check (map (λ x. x.0) xs)) around ≡ true → all_local (blocks_of_arms (map arm_check (map (λ x. x.0) xs))) ≡ true
+        (xs : List ArmChild) (around : Around) → arms_fine (map (arm_check names result) (map (λ x. x.0) xs)) around ≡ true → all_local (blocks_of_arms (map (arm_check names result) (map (λ x. x.0) xs))) ≡ true
         → AllArms code f names knows result (map (arm_code sh) (map (λ x. x.0) xs))
     all_arms [] around h l = tt
     all_arms (x ∷ xs) around h l =
         let b = both_true _ _ h in
-        let c = both_lists _ (arm_check x.0).blocks (blocks_of_arms (map arm_check (map (λ x. x.0) xs))) l in
+        let c = both_lists _ (arm_check names result x.0).blocks (blocks_of_arms (map (arm_check names result) (map (λ x. x.0) xs))) l in
         (record { passes = x.1 around b.0 c.0; ends = arm_ends x.0 }, all_arms xs around b.1 c.1)
-
-    check_roll : (x : PStmt-F PStmt PArm) → check_of names result (roll-PStmt x) ≡ check_step names result (map-PStmt PStmt PArm StmtCheck ArmCheck (check_of names result) arm_check x)
-    unfolding out-PStmt roll-PStmt out
-    check_roll x =
-        let A = stmts StmtCheck ArmCheck in
-        let S = stmt_steps StmtCheck ArmCheck (check_step names result) (arm_step names result) in
-        lays-PStmt A S (roll-PStmt x)
-        ∙ ap (λ l. check_step names result ((body-PStmt).map stmt_family A (stmt_fold A S) l)) (out-roll-PStmt x)
-        ∙ ap (check_step names result) (map_is-PStmt stmt_family A (stmt_fold A S) x)
-
-    arm_check_roll : (x : PArm-F PStmt PArm) → arm_check (roll-PArm x) ≡ arm_step names result (map-PArm PStmt PArm StmtCheck ArmCheck (check_of names result) arm_check x)
-    unfolding out roll
-    arm_check_roll x =
-        let A = stmts StmtCheck ArmCheck in
-        let S = stmt_steps StmtCheck ArmCheck (check_step names result) (arm_step names result) in
-        lays-PArm A S (roll-PArm x)
-        ∙ ap (λ l. arm_step names result ((body-PArm).map stmt_family A (stmt_fold A S) l)) (out-roll-PArm x)
-        ∙ ap (arm_step names result) (map_is-PArm stmt_family A (stmt_fold A S) x)
 
     plain : (asm : Exits → Blocks → ℕ → List Placed) (e : ℕ → ℕ) (fits : Bool) → Passing asm → TreePasses (code_of.plain asm e fits)
     plain asm e fits h = record { passes = h; body_passes = h }
@@ -107,7 +86,7 @@ module _ (code : Code) (f : FunctionCode) (names : Names) (knows : Knows code f 
     Layer = PStmt-F Child ArmChild
 
     abbrev checked : Layer → StmtCheck
-    checked y = check_step names result (map-PStmt PStmt PArm StmtCheck ArmCheck (check_of names result) arm_check (map-PStmt Child ArmChild PStmt PArm (λ x. x.0) (λ x. x.0) y))
+    checked y = check_step names result (map-PStmt PStmt PArm StmtCheck ArmCheck (check_of names result) (arm_check names result) (map-PStmt Child ArmChild PStmt PArm (λ x. x.0) (λ x. x.0) y))
 
     step_ok :
         (y : Layer) (around : Around) → (checked y).is_fine around ≡ true → all_local (checked y).blocks ≡ true
@@ -147,13 +126,13 @@ module _ (code : Code) (f : FunctionCode) (names : Names) (knows : Knows code f 
     rolled : (y : Layer) → StmtOk (roll-PStmt (map-PStmt Child ArmChild PStmt PArm (λ x. x.0) (λ x. x.0) y))
     rolled y around h l =
         let x = map-PStmt Child ArmChild PStmt PArm (λ x. x.0) (λ x. x.0) y in
-        subst TreePasses (sym (stmt_code_roll sh x)) (step_ok y around (subst (λ c. c.is_fine around ≡ true) (check_roll x) h) (subst (λ c. all_local c.blocks ≡ true) (check_roll x) l))
+        subst TreePasses (sym (stmt_code_roll sh x)) (step_ok y around (subst (λ c. c.is_fine around ≡ true) (check_roll names result x) h) (subst (λ c. all_local c.blocks ≡ true) (check_roll names result x) l))
 
     arm_rolled : (y : PArm-F Child ArmChild) → ArmOk (roll-PArm (map-PArm Child ArmChild PStmt PArm (λ x. x.0) (λ x. x.0) y))
     arm_rolled y around h l =
         let x = map-PArm Child ArmChild PStmt PArm (λ x. x.0) (λ x. x.0) y in
-        let fine = subst (λ c. c.is_fine around ≡ true) (arm_check_roll x) h in
-        let locals = subst (λ c. all_local c.blocks ≡ true) (arm_check_roll x) l in
+        let fine = subst (λ c. c.is_fine around ≡ true) (arm_check_roll names result x) h in
+        let locals = subst (λ c. all_local c.blocks ≡ true) (arm_check_roll names result x) l in
         subst (λ (c : ArmCode). Passing c.code) (sym (arm_code_roll sh x)) (stacks.sequence_passes code f names knows result _ (all_pass y.list around fine locals))
 
     pub tree_passes : (x : PStmt) → StmtOk x
