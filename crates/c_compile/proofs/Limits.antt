@@ -17,51 +17,8 @@ use Rattle.c_compile.specs.Variables.{variable_of_global, variable_of_slot, glob
 use Rattle.c_compile.specs.StmtCode.{function_code, program_code}
 use Rattle.c_compile.proofs.Parts.{both_true}
 use Rattle.c_compile.proofs.Sorts.{and_true}
+use Rattle.c_compile.proofs.CheckFacts.{function_facts, program_facts}
 use Rattle.c_compile.proofs.ExprStacks.{param_operands}
-
--- ---- what a check says
-
-pub record FunctionFacts (globals : List Global) (functions : List Function) (texts : List (List ℕ)) (f : Function) : Type 0 where
-  pub params : list_all param_fits f.params ≡ true
-  pub locals : list_all local_fits f.locals ≡ true
-  pub body : body_fits (f.params ++ f.locals) (length f.params) (check_of (names_of globals functions texts f) f.result f.body) ≡ true
-
-pub record ProgramFacts (globals : List Global) (functions : List Function) (texts : List (List ℕ)) (main : ℕ) : Type 0 where
-  pub few_functions : nat_le (length functions) 512 ≡ true
-  pub few_words : nat_le (words_of words_of_global globals) 65536 ≡ true
-  pub functions_fit : list_all (check.function_fits globals functions texts) functions ≡ true
-  pub short_texts : list_all (λ t. nat_le (length t) 509) texts ≡ true
-  pub main_fit : main_fits globals functions texts (slice_get functions main) ≡ true
-
-module _ (globals : List Global) (functions : List Function) (texts : List (List ℕ)) where
-  pub function_facts : (f : Function) → check.function_fits globals functions texts f ≡ true → FunctionFacts globals functions texts f
-  function_facts f h =
-      let names = is_name f.name in
-      let params = list_all param_fits f.params in
-      let locals = list_all local_fits f.locals in
-      let few = nat_le (length f.params) 31 in
-      let slots = nat_le (length f.params + length f.locals) 256 in
-      let body = body_fits (f.params ++ f.locals) (length f.params) (check_of (names_of globals functions texts f) f.result f.body) in
-      let h5 = both_true (names && params && locals && few && slots) body h in
-      let h4 = both_true (names && params && locals && few) slots h5.0 in
-      let h3 = both_true (names && params && locals) few h4.0 in
-      let h2 = both_true (names && params) locals h3.0 in
-      record { params = (both_true names params h2.0).1; locals = h2.1; body = h5.1 }
-
-  pub program_facts : (main : ℕ) → is_checked globals functions texts main ≡ true → ProgramFacts globals functions texts main
-  program_facts main h =
-      let many = nat_le (length functions) 512 in
-      let names = nat_le (length globals) 1024 in
-      let words = nat_le (words_of words_of_global globals) 65536 in
-      let sized = list_all global_fits globals in
-      let fit = list_all (check.function_fits globals functions texts) functions in
-      let short = list_all (λ t. nat_le (length t) 509) texts in
-      let h6 = both_true (many && names && words && sized && fit && short) (main_fits globals functions texts (slice_get functions main)) h in
-      let h5 = both_true (many && names && words && sized && fit) short h6.0 in
-      let h4 = both_true (many && names && words && sized) fit h5.0 in
-      let h3 = both_true (many && names && words) sized h4.0 in
-      let h2 = both_true (many && names) words h3.0 in
-      record { few_functions = (both_true many names h2.0).0; few_words = h2.1; functions_fit = h4.1; short_texts = h5.1; main_fit = h6.1 }
 
 -- ---- where variables lie
 

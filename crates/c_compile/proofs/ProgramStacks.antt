@@ -19,6 +19,7 @@ use Rattle.c_compile.proofs.Programs as programs
 use Rattle.c_compile.proofs.Programs.{all_lie}
 use Rattle.c_compile.proofs.Ways as ways
 use Rattle.c_compile.proofs.Ways.{item_of_map}
+use Rattle.c_compile.proofs.CheckFacts.{ProgramFacts, item_passes, outside, function_facts, program_facts}
 use Rattle.c_compile.proofs.Checked as checks
 use Rattle.c_compile.proofs.Finds.{Finds}
 use Rattle.c_compile.proofs.ExprStacks.{Knows, param_operands}
@@ -27,11 +28,6 @@ use Rattle.c_compile.proofs.StmtStacks.{is_local}
 use Rattle.c_compile.proofs.TreeStacks as trees
 use Rattle.c_compile.proofs.TreeStacks.{all_local}
 use Rattle.c_compile.proofs.Limits as limits
-
-item_passes : {A : Type 0} (test : A → Bool) (xs : List A) (i : ℕ) (x : A) → list_all test xs ≡ true → slice_get xs i ≡ Some x → test x ≡ true
-item_passes test [] i x h e = cc
-item_passes test (y ∷ ys) zero x h e = let same : y ≡ x = cc in subst (λ z. test z ≡ true) same (both_true (test y) (list_all test ys) h).0
-item_passes test (y ∷ ys) (suc i) x h e = item_passes test ys i x (both_true (test y) (list_all test ys) h).1 e
 
 -- a slot behind the parameters is a local
 later_slot : (ps ls : List Slot) (i : ℕ) (x : Slot) → length ps ≤ i → list_all local_fits ls ≡ true → slice_get (ps ++ ls) i ≡ Some x → not x.array_param ≡ true
@@ -76,8 +72,8 @@ module _ (globals : List Global) (functions : List Function) (texts : List (List
   abbrev names : Function → Names
   names fn = names_of globals functions texts fn
 
-  facts : limits.ProgramFacts globals functions texts main
-  facts = limits.program_facts globals functions texts main ok
+  facts : ProgramFacts globals functions texts main
+  facts = program_facts globals functions texts main ok
 
   fits : program_fits globals functions texts ≡ true
   fits = checks.functions_ok globals functions texts facts.functions_fit functions facts.functions_fit
@@ -98,18 +94,13 @@ module _ (globals : List Global) (functions : List Function) (texts : List (List
     functions = operands_known;
   }
 
-  abbrev outside : Around
-  outside = record { loop = false; breaks = false }
-
   function_finds : (g : ℕ) (fn : Function) → slice_get functions g ≡ Some fn → (n : ℕ) → Finds code (compiled fn) n 0 []
   function_finds g fn e n =
-      let fit = limits.function_facts globals functions texts fn (item_passes (check.function_fits globals functions texts) functions g fn facts.functions_fit e) in
+      let fit = function_facts globals functions texts fn (item_passes (check.function_fits globals functions texts) functions g fn facts.functions_fit e) in
       let c = check_of (names fn) fn.result fn.body in
-      let b = both_true (c.is_block && c.is_fine outside) (blocks_fit (fn.params ++ fn.locals) (length fn.params) 0 c.blocks) fit.body in
-      let fine = (both_true c.is_block (c.is_fine outside) b.0).1 in
-      let locals = blocks_local fn.params fn.locals fit.locals c.blocks (length fn.params) 0 (omega arith) b.1 in
+      let locals = blocks_local fn.params fn.locals fit.locals c.blocks (length fn.params) 0 (omega arith) fit.blocks in
       let sh = programs.sh set fn in
-      let passes = trees.tree_passes code (compiled fn) (names fn) (knows fn) fn.result (ways.ends set fits g fn e) (ways.arm_ends set fits g fn e) fn.body outside fine locals in
+      let passes = trees.tree_passes code (compiled fn) (names fn) (knows fn) fn.result (ways.ends set fits g fn e) (ways.arm_ends set fits g fn e) fn.body outside fit.body locals in
       stacks.function_finds code (compiled fn) (names fn) (knows fn) fn.result (stmt_code sh fn.body) fn.line passes.body_passes (ways.body_ends set fits g fn e fn.body) (all_lie (compiled fn).steps) n
 
   pub checked_finds : FindsOperands code
