@@ -1,15 +1,13 @@
 -- The code of a checked expression finds its operands, and leaves what the expression's sort says.
-use Rattle.std.proofs.Common.{◌≡◌, ℕ, zero, suc, ◌+◌, ◌-◌, ◌≤◌, Bool, true, false, List, [], ◌∷◌, ◌++◌, map, length, Option, Some, None, refl, sym, ap, ◌∙◌, subst, arith}
-use Rattle.std.specs.Prelude.{◌&&◌, ◌==◌, not, nat_lt, nat_le, replicate, slice_get, unwrap_or, is_none}
+use Rattle.std.proofs.Common.{◌≡◌, ℕ, ◌+◌, ◌-◌, Bool, true, false, List, [], ◌∷◌, ◌++◌, map, length, Option, Some, None, refl, sym, ◌∙◌, subst, arith}
+use Rattle.std.specs.Prelude.{◌&&◌, ◌==◌, not, nat_lt, nat_le, slice_get, unwrap_or, is_none}
 use Rattle.std.specs.List.{list_any}
-use Rattle.std.proofs.lemmas.Bool.{eqb-true, eq-eqb, leb-true, le-leb}
-use denote.Hole.Carrier.{out}
+use Rattle.std.proofs.lemmas.Bool.{eqb-true, leb-true, le-leb}
 use Rattle.nm_base.specs.declared.operator.Ctype.{Ctype}
 use Rattle.nm_base.specs.declared.operator.Ctype.TheVariants.{Int}
 use Rattle.nm_base.specs.declared.operator.UnaryOp.{UnaryOp}
 use Rattle.nm_base.specs.declared.operator.BinaryOp.{BinaryOp}
 use Rattle.nm_base.specs.declared.operator.BinaryOp.TheVariants.{Differ}
-use Rattle.nm_base.specs.Word.{common_type}
 use Rattle.c_tree.specs.declared.program.Global.{Global}
 use Rattle.c_tree.specs.declared.program.Slot.{Slot}
 use Rattle.c_tree.specs.declared.program.Function.{Function}
@@ -20,17 +18,18 @@ use Rattle.c_tree.specs.declared.program.Callee.TheVariants.{Function as Own, Bu
 use Rattle.c_tree.specs.declared.program.BuiltIn.{BuiltIn}
 use Rattle.c_tree.specs.declared.program.BuiltIn.TheVariants as built
 use Rattle.c_tree.specs.declared.program.PExpr.{PExpr}
-use Rattle.c_tree.specs.declared.program.PKind.{PKind, roll-PKind, out-PKind, out-roll-PKind}
+use Rattle.c_tree.specs.declared.program.PKind.{PKind, roll-PKind}
 use Rattle.c_tree.specs.declared.program.PKind.TheOpen.{PKind-F, PExpr-F}
-use Rattle.c_tree.specs.declared.program.PKind.TheBlock.{laid-PKind, the_family as expr_family, the_fold as expr_fold, body-PKind, lays-PKind}
-use Rattle.c_tree.specs.declared.program.PKind.TheFolds.{ind-PKind, family as kinds, steps as kind_steps, map-PKind, map_is-PKind}
+use Rattle.c_tree.specs.declared.program.PKind.TheFolds.{ind-PKind, map-PKind}
 use Rattle.c_tree.specs.Storage.{words_of_global, words_of_slot, words_before}
 use Rattle.c_tree.specs.Typing as typing
-use Rattle.c_tree.specs.Typing.{Sort, Void, Array, Text, Wrong, Names, agreed, is_typed, is_value, is_effect, with_type, with_place, where_true, element_of, const_of, comma_of, result_of, sort_of_global, sort_of_slot, sort_of_target, sort_of_call, call_of_function, fit_params, fits_param, all_values, fits_format, fits_printf, fits_built_in, is_count, conversions_from, same_type, sort_step, typed_step, sort_of}
+use Rattle.c_tree.specs.Typing.{Sort, Void, Array, Text, Wrong, Names, agreed, is_typed, is_value, is_effect, with_type, with_place, where_true, element_of, const_of, comma_of, result_of}
+use Rattle.c_tree.specs.Typing.{sort_of_global, sort_of_slot, sort_of_target, sort_of_call, call_of_function, fit_params, fits_param, all_values, fits_format, fits_printf, fits_built_in}
+use Rattle.c_tree.specs.Typing.{is_count, conversions_from, same_type, sort_step, typed_step, sort_of}
 use Rattle.stack_code.specs.declared.instr.Instr.{Instr}
 use Rattle.stack_code.specs.declared.instr.Instr.TheVariants as instr
 use Rattle.stack_code.specs.Code.{FunctionCode, Code}
-use Rattle.stack_code.specs.Machine.{conversions, text_at}
+use Rattle.stack_code.specs.Machine.{conversions}
 use Rattle.stack_code.specs.Valid.{Operand, Value, Place, ArrayPlace, ArrayLength, names_fit, follows, taking, pushed, values, operands_by, is_scalar_at, is_array_at, is_array_param_at, is_whole_at}
 use Rattle.c_compile.specs.Asm.{Asm, nothing, one, ◌⨾◌, choose}
 use Rattle.c_compile.specs.ExprCode as code_of
@@ -41,10 +40,14 @@ use Rattle.c_compile.proofs.Sorts.{and_true}
 use Rattle.c_compile.proofs.Finds as finds
 use Rattle.c_compile.proofs.Finds.{Leads, Steps, pushed_append, taking_pushed}
 
+-- what an argument pushes before others: an array's place and length, or a value
+abbrev pub passed : Bool → List Operand → List Operand
+passed is_array more = elim is_array [ true ↦ ArrayPlace ∷ ArrayLength ∷ more | false ↦ Value ∷ more ]
+
 -- the operands that a function's parameters take
 abbrev pub param_operands : List Slot → List Operand
 param_operands [] = []
-param_operands (x ∷ xs) = elim x.array_param [ true ↦ ArrayPlace ∷ ArrayLength ∷ param_operands xs | false ↦ Value ∷ param_operands xs ]
+param_operands (x ∷ xs) = passed x.array_param (param_operands xs)
 
 -- the code names the variables of a program, its functions and its texts
 pub record Knows (code : Code) (f : FunctionCode) (names : Names) : Type 0 where
@@ -205,7 +208,9 @@ module _ (code : Code) (f : FunctionCode) where
   assigned None target value x y = record { by = λ s. finds.seq code f (x.by s) (finds.seq code f (y.by (Place ∷ s)) (store s)) }
   assigned (Some op) target value x y = record {
     by = λ s.
-        finds.seq code f (x.by s) (finds.seq code f (dup_place s) (finds.seq code f (y.by (Place ∷ Place ∷ s)) (finds.seq code f (value_below (Place ∷ s)) (finds.seq code f (load (Value ∷ Place ∷ s)) (finds.seq code f (values_swapped (Place ∷ s)) (finds.seq code f (binary _ _ (Place ∷ s)) (store s)))))));
+        let computed = finds.seq code f (values_swapped (Place ∷ s)) (finds.seq code f (binary _ _ (Place ∷ s)) (store s)) in
+        let loaded = finds.seq code f (value_below (Place ∷ s)) (finds.seq code f (load (Value ∷ Place ∷ s)) computed) in
+        finds.seq code f (x.by s) (finds.seq code f (dup_place s) (finds.seq code f (y.by (Place ∷ Place ∷ s)) loaded));
   }
 
   -- one is added to a value whose place is below it
@@ -218,7 +223,9 @@ module _ (code : Code) (f : FunctionCode) where
   }
   bumped up false target x = record {
     by = λ s.
-        finds.seq code f (x.by s) (finds.seq code f (dup_place s) (finds.seq code f (load (Place ∷ s)) (finds.seq code f (value_below s) (finds.seq code f (dup_place (Value ∷ s)) (finds.seq code f (load (Place ∷ Value ∷ s)) (finds.seq code f (stepped up target (Value ∷ s)) (drop_value (Value ∷ s))))))));
+        let new = finds.seq code f (load (Place ∷ Value ∷ s)) (finds.seq code f (stepped up target (Value ∷ s)) (drop_value (Value ∷ s))) in
+        let old_below = finds.seq code f (value_below s) (finds.seq code f (dup_place (Value ∷ s)) new) in
+        finds.seq code f (x.by s) (finds.seq code f (dup_place s) (finds.seq code f (load (Place ∷ s)) old_below));
   }
 
   -- ---- arguments
@@ -244,15 +251,15 @@ module _ (code : Code) (f : FunctionCode) where
 
   param_stacks :
       (n : ℕ) (s : Sort) (x : Slot) (c : ExprCode) → SortStacks n s c → fits_param s x ≡ true
-      → Pushes c.argument (elim x.array_param [ true ↦ ArrayPlace ∷ ArrayLength ∷ [] | false ↦ Value ∷ [] ])
+      → Pushes c.argument (passed x.array_param [])
   param_stacks n (typing.Value of is_place) x c h e = by_kind x.array_param e
     where
-      by_kind : (b : Bool) → not b ≡ true → Pushes c.argument (elim b [ true ↦ ArrayPlace ∷ ArrayLength ∷ [] | false ↦ Value ∷ [] ])
+      by_kind : (b : Bool) → not b ≡ true → Pushes c.argument (passed b [])
       by_kind true e = cc
       by_kind false e = h.0.argument
   param_stacks n (Array of) x c h e = by_kind x.array_param (both_true x.array_param (same_type of x.of) e).0
     where
-      by_kind : (b : Bool) → b ≡ true → Pushes c.argument (elim b [ true ↦ ArrayPlace ∷ ArrayLength ∷ [] | false ↦ Value ∷ [] ])
+      by_kind : (b : Bool) → b ≡ true → Pushes c.argument (passed b [])
       by_kind true e = h
       by_kind false e = cc
   param_stacks n Void x c h e = cc
@@ -271,7 +278,7 @@ module _ (code : Code) (f : FunctionCode) where
     where
       joined :
           (b : Bool)
-          → elim b [ true ↦ ArrayPlace ∷ ArrayLength ∷ [] | false ↦ Value ∷ [] ] ++ param_operands xs ≡ elim b [ true ↦ ArrayPlace ∷ ArrayLength ∷ param_operands xs | false ↦ Value ∷ param_operands xs ]
+          → passed b [] ++ param_operands xs ≡ passed b (param_operands xs)
       joined true = refl
       joined false = refl
 
@@ -363,7 +370,8 @@ module _ (code : Code) (f : FunctionCode) (names : Names) (knows : Knows code f 
       where_true_stacks code f known_texts (fit_params ss fn.params) (result_of fn.result) _ (λ h.
       let ready = params_stack code f known_texts ss es fn.params r h in
       let named = sym (knows.functions g fn e) in
-      result_stacks code f known_texts fn.result _ (valued_stacks code f _ fits (after_operands code f (instr.Call g) (subst (λ ks. Pushes code f (code_of.argument_code es) ks) named ready) refl (λ p t next k. k))))
+      let taken = subst (λ ks. Pushes code f (code_of.argument_code es) ks) named ready in
+      result_stacks code f known_texts fn.result _ (valued_stacks code f _ fits (after_operands code f (instr.Call g) taken refl (λ p t next k. k))))
 
   built_stacks :
       (b : BuiltIn) (ss : List Sort) (es : List TypedCode) → AllStacks code f known_texts ss es → fits_built_in names.texts b ss ≡ true
@@ -423,6 +431,10 @@ module _ (code : Code) (f : FunctionCode) (names : Names) (knows : Knows code f 
       by_length None h = scalar_stacks (instr.GlobalPlace (global_base i)) g.of (place_pushed _ (knows.scalar_global i g e h) (λ p t next k. k))
       by_length (Some n) h = array_pushed (instr.GlobalArray (global_base i) n) (knows.array_global i n g e h) (λ p t next k. k)
 
+  -- the code of a slot's name
+  abbrev slot_code : ℕ → Option Slot → ExprCode
+  slot_code i o = code_of.placed (one (instr.LocalPlace (slot_base i))) (code_of.slot_argument sh (slot_base i) o).0 (code_of.slot_argument sh (slot_base i) o).1 true
+
   slot_stacks :
       (i : ℕ) (o : Option Slot) → slice_get names.slots i ≡ o
       → Stacks (sort_of_slot o) (code_of.placed (one (instr.LocalPlace (slot_base i))) (code_of.slot_argument sh (slot_base i) o).0 (code_of.slot_argument sh (slot_base i) o).1 true)
@@ -431,7 +443,7 @@ module _ (code : Code) (f : FunctionCode) (names : Names) (knows : Knows code f 
     where
       by_kind :
           (b : Bool) (n : Option ℕ) → x.array_param ≡ b → x.length ≡ n
-          → Stacks (sort_of_slot (Some (changed x b n))) (code_of.placed (one (instr.LocalPlace (slot_base i))) (code_of.slot_argument sh (slot_base i) (Some (changed x b n))).0 (code_of.slot_argument sh (slot_base i) (Some (changed x b n))).1 true)
+          → Stacks (sort_of_slot (Some (changed x b n))) (slot_code i (Some (changed x b n)))
       by_kind true n h g = array_pushed (instr.ParamArray (slot_base i)) (knows.array_param i x e h) (λ p t next k. k)
       by_kind false None h g = scalar_stacks (instr.LocalPlace (slot_base i)) x.of (place_pushed _ (knows.scalar_slot i x e h g) (λ p t next k. k))
       by_kind false (Some n) h g = array_pushed (instr.LocalArray (slot_base i) n) (knows.array_slot i n x e h g) (λ p t next k. k)
@@ -447,7 +459,8 @@ module _ (code : Code) (f : FunctionCode) (names : Names) (knows : Knows code f 
       → ((p : ℕ) (t : List Operand) (next : ℕ → List Operand → Bool) → taking (Value ∷ []) t (λ u. next (p + 1) (Place ∷ u)) ≡ true → follows code f i p t next ≡ true)
       → Stacks (typing.Value of true) (code_of.placed (index.part.value ⨾ one i) ((index.part.value ⨾ one i) ⨾ one instr.Load) 1 index.part.fits)
   element index i of x fit k =
-      let place : Pushes code f (index.part.value ⨾ one i) (Place ∷ []) = record { by = λ s. finds.seq code f (x.value.by s) (finds.single code f i (Value ∷ s) (Place ∷ s) fit (λ p next h. k p (Value ∷ s) next h)) } in
+      let last = λ (s : List Operand). finds.single code f i (Value ∷ s) (Place ∷ s) fit (λ p next h. k p (Value ∷ s) next h) in
+      let place : Pushes code f (index.part.value ⨾ one i) (Place ∷ []) = record { by = λ s. finds.seq code f (x.value.by s) (last s) } in
       (placed_stacks code f (index.part.value ⨾ one i) ((index.part.value ⨾ one i) ⨾ one instr.Load) index.part.fits place (record { by = λ s. finds.seq code f (place.by s) (load code f s) }), place)
 
   abbrev At : TypedCode → Instr → ExprCode
@@ -504,9 +517,17 @@ module _ (code : Code) (f : FunctionCode) (names : Names) (knows : Knows code f 
   valued : (of : Ctype) (asm : Asm) (fits : Bool) → Pushes code f asm (Value ∷ []) → Stacks (typing.Value of false) (code_of.valued asm fits)
   valued of asm fits x = (valued_stacks code f asm fits x, tt)
 
-  step_stacks :
-      (y : Layer) (written : Option Ctype)
-      → Stacks (sort_step names (map-PKind PKind PExpr (Option Ctype → Sort) Sort (kind_sort names) (sort_of names) (map-PKind ((k : PKind) × KindStacks k) Child PKind PExpr (λ k. k.0) (λ e. e.0) y)) written) (code_of.kind_step sh (map-PKind PKind PExpr ExprCode TypedCode (kind_code sh) (typed_code sh) (map-PKind ((k : PKind) × KindStacks k) Child PKind PExpr (λ k. k.0) (λ e. e.0) y)))
+  abbrev whole : Layer → PKind-F PKind PExpr
+  whole y = map-PKind ((k : PKind) × KindStacks k) Child PKind PExpr (λ k. k.0) (λ e. e.0) y
+
+  -- the sort of a kind, and its code, by those of its parts
+  abbrev sort_at : PKind-F PKind PExpr → Option Ctype → Sort
+  sort_at x written = sort_step names (map-PKind PKind PExpr (Option Ctype → Sort) Sort (kind_sort names) (sort_of names) x) written
+
+  abbrev code_at : PKind-F PKind PExpr → ExprCode
+  code_at x = code_of.kind_step sh (map-PKind PKind PExpr ExprCode TypedCode (kind_code sh) (typed_code sh) x)
+
+  step_stacks : (y : Layer) (written : Option Ctype) → Stacks (sort_at (whole y) written) (code_at (whole y))
   step_stacks (PKind-F.Const bits) written = const_stacks code f known_texts written _ (valued_stacks code f _ true (pushes_bits code f bits))
   step_stacks (PKind-F.Text text) written = where_true_stacks code f known_texts _ (Text text) _ (λ h. (refl, h))
   step_stacks (PKind-F.Name what) written = name_stacks what
@@ -516,11 +537,17 @@ module _ (code : Code) (f : FunctionCode) (names : Names) (knows : Knows code f 
       with_type_stacks code f known_texts _ _ _ _ (child_stacks part) (λ of v. valued Int _ _ (record { by = λ s. finds.seq code f (v.value.by s) (unary code f op _ s) }))
   step_stacks (PKind-F.Bump up before part) written = with_place_stacks code f known_texts _ _ _ _ (child_stacks part) (λ of x. valued of _ _ (bumped code f up before (typed_code sh part.0) x))
   step_stacks (PKind-F.Binary op left right) written =
-      with_type_stacks code f known_texts _ _ _ _ (child_stacks left) (λ a v. with_type_stacks code f known_texts _ _ _ _ (child_stacks right) (λ b w. valued Int _ _ (record { by = λ s. finds.seq code f (v.value.by s) (finds.seq code f (w.value.by (Value ∷ s)) (binary code f op _ s)) })))
+      with_type_stacks code f known_texts _ _ _ _ (child_stacks left) (λ a v.
+      with_type_stacks code f known_texts _ _ _ _ (child_stacks right) (λ b w.
+      valued Int _ _ (record { by = λ s. finds.seq code f (v.value.by s) (finds.seq code f (w.value.by (Value ∷ s)) (binary code f op _ s)) })))
   step_stacks (PKind-F.And left right) written =
-      where_true_stacks code f known_texts _ (typing.Value Int false) _ (λ h. let b = both_true _ _ h in valued Int _ _ (chosen code f (value_of left b.0).value (truth code f (value_of right b.1).value) (pushes_bits code f 0)))
+      where_true_stacks code f known_texts _ (typing.Value Int false) _ (λ h.
+      let b = both_true _ _ h in
+      valued Int _ _ (chosen code f (value_of left b.0).value (truth code f (value_of right b.1).value) (pushes_bits code f 0)))
   step_stacks (PKind-F.Or left right) written =
-      where_true_stacks code f known_texts _ (typing.Value Int false) _ (λ h. let b = both_true _ _ h in valued Int _ _ (chosen code f (value_of left b.0).value (pushes_bits code f 1) (truth code f (value_of right b.1).value)))
+      where_true_stacks code f known_texts _ (typing.Value Int false) _ (λ h.
+      let b = both_true _ _ h in
+      valued Int _ _ (chosen code f (value_of left b.0).value (pushes_bits code f 1) (truth code f (value_of right b.1).value)))
   step_stacks (PKind-F.Choose test first second) written =
       where_true_stacks code f known_texts _ _ _ (λ h.
       with_type_stacks code f known_texts _ _ _ _ (child_stacks first) (λ a v.
@@ -530,15 +557,20 @@ module _ (code : Code) (f : FunctionCode) (names : Names) (knows : Knows code f 
       let x = effect_facts code f known_texts _ _ (child_stacks left) h in
       comma_stacks code f known_texts _ _ _ (child_stacks right) (λ y. valued_stacks code f _ _ (record { by = λ s. finds.seq code f (x.by s) (finds.seq code f (drop_value code f s) (y.by s)) })))
   step_stacks (PKind-F.Assign op target value) written =
-      with_place_stacks code f known_texts _ _ _ _ (child_stacks target) (λ of x. where_true_stacks code f known_texts _ (typing.Value of false) _ (λ h. valued of _ _ (assigned code f op (typed_code sh target.0) (typed_code sh value.0) x (value_of value h).value)))
+      with_place_stacks code f known_texts _ _ _ _ (child_stacks target) (λ of x.
+      where_true_stacks code f known_texts _ (typing.Value of false) _ (λ h.
+      valued of _ _ (assigned code f op (typed_code sh target.0) (typed_code sh value.0) x (value_of value h).value)))
 
-  rolled : (y : Layer) → KindStacks (roll-PKind (map-PKind ((k : PKind) × KindStacks k) Child PKind PExpr (λ k. k.0) (λ e. e.0) y))
+  rolled : (y : Layer) → KindStacks (roll-PKind (whole y))
   rolled y written =
-      let x = map-PKind ((k : PKind) × KindStacks k) Child PKind PExpr (λ k. k.0) (λ e. e.0) y in
-      subst (λ s. Stacks (s written) (kind_code sh (roll-PKind x))) (sym (sort_roll names x)) (subst (λ c. Stacks (sort_step names (map-PKind PKind PExpr (Option Ctype → Sort) Sort (kind_sort names) (sort_of names) x) written) c) (sym (code_roll sh x)) (step_stacks y written))
+      let x = whole y in
+      let coded = subst (λ c. Stacks (sort_at x written) c) (sym (code_roll sh x)) (step_stacks y written) in
+      subst (λ s. Stacks (s written) (kind_code sh (roll-PKind x))) (sym (sort_roll names x)) coded
 
   kind_stacks : (k : PKind) → KindStacks k
-  kind_stacks = ind-PKind KindStacks (λ e. KindStacks e.kind) (λ x y is. subst (λ z. KindStacks (roll-PKind z)) is (rolled y)) (λ x y is. subst (λ (z : PExpr-F PKind PExpr). KindStacks z.kind) is y.kind.1)
+  kind_stacks =
+      ind-PKind KindStacks (λ e. KindStacks e.kind) (λ x y is. subst (λ z. KindStacks (roll-PKind z)) is (rolled y)) (λ x y is.
+      subst (λ (z : PExpr-F PKind PExpr). KindStacks z.kind) is y.kind.1)
 
   pub expr_stacks : (e : PExpr) → Stacks (sort_of names e) (expr_code sh e)
   expr_stacks e = child_stacks (e, kind_stacks e.kind)

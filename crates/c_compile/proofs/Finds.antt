@@ -1,10 +1,10 @@
 -- Paths through code on which each instruction finds the operands that it takes.
-use Rattle.std.proofs.Common.{◌≡◌, ℕ, zero, suc, ◌+◌, ◌≤◌, Bool, true, false, List, [], ◌∷◌, ◌++◌, length, Option, Some, None, refl, sym, ap, ◌∙◌, subst, arith}
+use Rattle.std.proofs.Common.{◌≡◌, ℕ, zero, suc, ◌+◌, ◌≤◌, Bool, true, List, [], ◌∷◌, ◌++◌, Some, refl, sym, ap, ◌∙◌, subst, arith}
 use Rattle.std.specs.Prelude.{slice_get}
 use Rattle.stack_code.specs.declared.instr.Instr.{Instr}
 use Rattle.stack_code.specs.declared.instr.Instr.TheVariants as instr
-use Rattle.stack_code.specs.Code.{Placed, FunctionCode, Code}
-use Rattle.stack_code.specs.Valid.{Operand, Value, Place, ArrayPlace, ArrayLength, same_operand, names_fit, follows, follows_if_any, finds, pushed, below, go_on, taking}
+use Rattle.stack_code.specs.Code.{FunctionCode, Code}
+use Rattle.stack_code.specs.Valid.{Operand, Value, Place, ArrayPlace, ArrayLength, names_fit, follows, follows_if_any, finds, pushed, below, go_on, taking}
 use Rattle.c_compile.specs.Asm.{Asm, nothing, one, end_of, ◌⨾◌, choose}
 use Rattle.c_compile.proofs.Lies.{BlockAt, block_split, block_end}
 use Rattle.c_compile.proofs.Sorts.{and_true}

@@ -1,8 +1,8 @@
 -- The code of a checked program keeps the limits, and lays out the variables.
 use Rattle.std.proofs.Common.{◌≡◌, ℕ, zero, suc, ◌+◌, ◌≤◌, Bool, true, false, List, [], ◌∷◌, ◌++◌, map, length, take, drop, Option, Some, None, refl, sym, ap, ◌∙◌, subst, arith, length-append}
-use Rattle.std.specs.Prelude.{◌&&◌, ◌||◌, ◌==◌, not, nat_le, replicate, slice_get, is_none, unwrap_or, IsTrue}
+use Rattle.std.specs.Prelude.{◌||◌, ◌==◌, not, nat_le, replicate, slice_get, is_none}
 use Rattle.std.specs.List.{list_all, list_any}
-use Rattle.std.proofs.lemmas.Bool.{eqb-true, eq-eqb, leb-true, le-leb}
+use Rattle.std.proofs.lemmas.Bool.{eq-eqb, le-leb}
 use Rattle.c_tree.specs.declared.program.Global.{Global}
 use Rattle.c_tree.specs.declared.program.Slot.{Slot}
 use Rattle.c_tree.specs.declared.program.Function.{Function}
@@ -11,14 +11,15 @@ use Rattle.c_tree.specs.Expr.{slots_of}
 use Rattle.c_tree.specs.Checks as check
 use Rattle.c_tree.specs.Checks.{is_name, param_fits, local_fits, global_fits, main_fits, body_fits, check_of, names_of, is_checked}
 use Rattle.stack_code.specs.declared.code.Variable.{Variable}
-use Rattle.stack_code.specs.Code.{FunctionCode, Code, params_of}
-use Rattle.stack_code.specs.Valid.{Operand, Value, ArrayPlace, ArrayLength, operands_of, words_of_variable, words_of_all, laid_out_from, is_scalar_at, is_array_at, is_array_param_at, is_whole_at, is_length, is_fit_function, is_main, is_within}
+use Rattle.stack_code.specs.Code.{FunctionCode, params_of}
+use Rattle.stack_code.specs.Valid.{Operand, Value, ArrayPlace, ArrayLength, operands_of, words_of_all, laid_out_from, is_scalar_at, is_array_at, is_array_param_at, is_whole_at}
+use Rattle.stack_code.specs.Valid.{is_length, is_fit_function, is_main, is_within}
 use Rattle.c_compile.specs.Variables.{variable_of_global, variable_of_slot, globals_from, slots_from}
 use Rattle.c_compile.specs.StmtCode.{function_code, program_code}
 use Rattle.c_compile.proofs.Parts.{both_true}
 use Rattle.c_compile.proofs.Sorts.{and_true}
 use Rattle.c_compile.proofs.CheckFacts.{function_facts, program_facts}
-use Rattle.c_compile.proofs.ExprStacks.{param_operands}
+use Rattle.c_compile.proofs.ExprStacks.{passed, param_operands}
 
 -- ---- where variables lie
 
@@ -112,13 +113,7 @@ take_params (p ∷ ps) ls base = ap (λ l. variable_of_slot base p ∷ l) (take_
 
 pub param_operands_are : (ps : List Slot) (base : ℕ) → operands_of (slots_from base ps) ≡ param_operands ps
 param_operands_are [] base = refl
-param_operands_are (p ∷ ps) base = by_kind p.array_param (param_operands_are ps (base + words_of_slot p))
-  where
-    by_kind :
-        (b : Bool) → operands_of (slots_from (base + words_of_slot p) ps) ≡ param_operands ps
-        → ◌≡◌ {A = List Operand} (elim b [ true ↦ ArrayPlace ∷ ArrayLength ∷ operands_of (slots_from (base + words_of_slot p) ps) | false ↦ Value ∷ operands_of (slots_from (base + words_of_slot p) ps) ]) (elim b [ true ↦ ArrayPlace ∷ ArrayLength ∷ param_operands ps | false ↦ Value ∷ param_operands ps ])
-    by_kind true h = ap (λ l. ArrayPlace ∷ ArrayLength ∷ l) h
-    by_kind false h = ap (λ l. Value ∷ l) h
+param_operands_are (p ∷ ps) base = ap (passed p.array_param) (param_operands_are ps (base + words_of_slot p))
 
 -- ---- limits
 

@@ -1,8 +1,9 @@
 -- The code of a checked program finds its operands, whatever way control takes.
-use Rattle.std.proofs.Common.{◌≡◌, ℕ, zero, suc, ◌+◌, ◌≤◌, Bool, true, false, List, [], ◌∷◌, ◌++◌, map, length, Option, Some, None, refl, sym, ap, ◌∙◌, subst, arith}
+use Rattle.std.proofs.Common.{◌≡◌, ℕ, zero, suc, ◌+◌, ◌≤◌, Bool, true, false, List, [], ◌∷◌, ◌++◌, length, Option, Some, None, refl, sym, ap, ◌∙◌, subst, arith}
 use Rattle.std.specs.Prelude.{◌&&◌, ◌==◌, not, slice_get}
 use Rattle.std.specs.List.{list_all}
 use Rattle.std.proofs.lemmas.Bool.{eqb-true}
+use Rattle.std.proofs.lemmas.Grind.{merely}
 use Rattle.c_tree.specs.declared.program.Global.{Global}
 use Rattle.c_tree.specs.declared.program.Slot.{Slot}
 use Rattle.c_tree.specs.declared.program.Function.{Function}
@@ -11,7 +12,7 @@ use Rattle.c_tree.specs.Checks as check
 use Rattle.c_tree.specs.Checks.{Around, local_fits, in_order, is_block_slot, blocks_fit, check_of, names_of, is_checked}
 use Rattle.c_tree.specs.Play.{Setting}
 use Rattle.stack_code.specs.Code.{FunctionCode, Code}
-use Rattle.stack_code.specs.Valid.{finds, FindsOperands, operands_of, operands_by, IsSound}
+use Rattle.stack_code.specs.Valid.{finds, FindsOperands, operands_of, operands_by, is_within, IsSound}
 use Rattle.c_compile.specs.StmtCode.{stmt_code, program_code, program_fits}
 use Rattle.c_compile.proofs.Parts.{both_true}
 use Rattle.c_compile.proofs.Sorts.{and_true}
@@ -39,7 +40,9 @@ module _ (ps ls : List Slot) (fit : list_all local_fits ls ≡ true) where
   abbrev local_in : ℕ → Bool
   local_in i = elim (slice_get (ps ++ ls) i) [ None ↦ false | Some x ↦ not x.array_param ]
 
-  slot_local : (i block : ℕ) (o : Option Slot) → slice_get (ps ++ ls) i ≡ o → length ps ≤ i → elim o [ None ↦ false | Some x ↦ x.block == block ] ≡ true → elim o [ None ↦ false | Some x ↦ not x.array_param ] ≡ true
+  slot_local :
+      (i block : ℕ) (o : Option Slot) → slice_get (ps ++ ls) i ≡ o → length ps ≤ i → elim o [ None ↦ false | Some x ↦ x.block == block ] ≡ true
+      → elim o [ None ↦ false | Some x ↦ not x.array_param ] ≡ true
   slot_local i block None e le h = h
   slot_local i block (Some x) e le h = later_slot ps ls i x le fit e
 
@@ -101,7 +104,8 @@ module _ (globals : List Global) (functions : List Function) (texts : List (List
       let locals = blocks_local fn.params fn.locals fit.locals c.blocks (length fn.params) 0 (omega arith) fit.blocks in
       let sh = programs.sh set fn in
       let passes = trees.tree_passes code (compiled fn) (names fn) (knows fn) fn.result (ways.ends set fits g fn e) (ways.arm_ends set fits g fn e) fn.body outside fit.body locals in
-      stacks.function_finds code (compiled fn) (names fn) (knows fn) fn.result (stmt_code sh fn.body) fn.line passes.body_passes (ways.body_ends set fits g fn e fn.body) (all_lie (compiled fn).steps) n
+      let ends = ways.body_ends set fits g fn e fn.body in
+      stacks.function_finds code (compiled fn) (names fn) (knows fn) fn.result (stmt_code sh fn.body) fn.line passes.body_passes ends (all_lie (compiled fn).steps) n
 
   pub checked_finds : FindsOperands code
   checked_finds g f h n =
@@ -110,8 +114,21 @@ module _ (globals : List Global) (functions : List Function) (texts : List (List
       let one : compiled fn.0 ≡ f = cc in
       subst (λ k. finds code k n 0 [] ≡ true) one ((function_finds g fn.0 fn.1 n).by n (omega arith))
 
-pub checked_sound : (globals : List Global) (functions : List Function) (texts : List (List ℕ)) (main : ℕ) → is_checked globals functions texts main ≡ true → IsSound (program_code globals functions texts main)
+pub checked_sound :
+    (globals : List Global) (functions : List Function) (texts : List (List ℕ)) (main : ℕ) → is_checked globals functions texts main ≡ true
+    → IsSound (program_code globals functions texts main)
 checked_sound globals functions texts main h = record {
   forward = checks.checked_forward globals functions texts main h;
   operands = checked_finds globals functions texts main h;
 }
+
+-- the same of code that is that of a checked program, as what keeps code requires it
+module _
+    (code : Code) (globals : List Global) (functions : List Function) (texts : List (List ℕ)) (main : ℕ)
+    (ok : is_checked globals functions texts main ≡ true)
+    (same : code ≡ program_code globals functions texts main) where
+  pub sound_by : ∥ IsSound code ∥₁
+  sound_by = merely (subst IsSound (sym same) (checked_sound globals functions texts main ok))
+
+  pub within_by : is_within code ≡ true
+  within_by = subst (λ c. is_within c ≡ true) (sym same) (limits.checked_within globals functions texts main ok)

@@ -1,9 +1,8 @@
 -- In a checked expression each call passes as many words as it must.
-use Rattle.std.proofs.Common.{◌≡◌, ℕ, Bool, true, false, List, [], ◌∷◌, map, length, Option, Some, None, refl, sym, ap, ◌∙◌, subst, arith}
+use Rattle.std.proofs.Common.{◌≡◌, ℕ, Bool, true, false, List, [], ◌∷◌, map, length, Option, Some, None, refl, sym, ◌∙◌, subst, arith}
 use Rattle.std.specs.Prelude.{◌&&◌, ◌==◌, not, nat_le, slice_get, unwrap_or, is_none}
 use Rattle.std.specs.List.{list_all}
 use Rattle.std.proofs.lemmas.Bool.{eqb-true, eq-eqb, leb-true, le-leb}
-use denote.Hole.Carrier.{out}
 use Rattle.nm_base.specs.declared.operator.Ctype.{Ctype}
 use Rattle.nm_base.specs.declared.operator.Ctype.TheVariants.{Int}
 use Rattle.nm_base.specs.Word.{common_type}
@@ -17,12 +16,11 @@ use Rattle.c_tree.specs.declared.program.Callee.TheVariants.{Function as Own, Bu
 use Rattle.c_tree.specs.declared.program.BuiltIn.{BuiltIn}
 use Rattle.c_tree.specs.declared.program.BuiltIn.TheVariants as built
 use Rattle.c_tree.specs.declared.program.PExpr.{PExpr}
-use Rattle.c_tree.specs.declared.program.PKind.{PKind, roll-PKind, out-PKind, out-roll-PKind}
+use Rattle.c_tree.specs.declared.program.PKind.{PKind, roll-PKind}
 use Rattle.c_tree.specs.declared.program.PKind.TheOpen.{PKind-F, PExpr-F}
-use Rattle.c_tree.specs.declared.program.PKind.TheBlock.{laid-PKind, the_family as expr_family, the_fold as expr_fold, body-PKind, lays-PKind}
-use Rattle.c_tree.specs.declared.program.PKind.TheFolds.{ind-PKind, family as kinds, steps as kind_steps, map-PKind, map_is-PKind}
+use Rattle.c_tree.specs.declared.program.PKind.TheFolds.{ind-PKind, map-PKind}
 use Rattle.c_tree.specs.Storage.{words_of_slot, words_of}
-use Rattle.c_tree.specs.Typing.{Sort, Value, Void, Array, Text, Wrong, Names, agreed, is_typed, is_value, is_effect, with_type, with_place, where_true, element_of, const_of, comma_of, result_of, sort_of_global, sort_of_slot, sort_of_target, sort_of_call, call_of_function, fit_params, fits_param, all_values, fits_format, fits_printf, fits_built_in, is_count, conversions_from, same_type, sort_step, typed_step, sort_of}
+use Rattle.c_tree.specs.Typing.{Sort, Value, Void, Array, Text, Wrong, Names, agreed, is_typed, is_value, is_effect, with_type, with_place, where_true, element_of, const_of, comma_of, result_of, sort_of_global, sort_of_slot, sort_of_target, sort_of_call, call_of_function, fit_params, fits_param, all_values, fits_format, fits_printf, fits_built_in, is_count, conversions_from, same_type, sort_step, sort_of}
 use Rattle.c_tree.specs.Checks.{param_fits}
 use Rattle.stack_code.specs.Machine.{conversions}
 use Rattle.c_compile.specs.Asm.{Asm, one}

@@ -1,8 +1,7 @@
 -- The code of a checked statement finds its operands: it begins and ends with none, and its jumps lead to places with none.
-use Rattle.std.proofs.Common.{◌≡◌, ℕ, zero, suc, ◌+◌, ◌≤◌, Bool, true, false, List, [], ◌∷◌, ◌++◌, map, length, Option, Some, None, refl, sym, ap, ◌∙◌, subst, arith, length-append}
-use Rattle.std.specs.Prelude.{◌&&◌, not, slice_get, is_none, is_some}
+use Rattle.std.proofs.Common.{◌≡◌, ℕ, zero, suc, ◌+◌, Bool, true, false, List, [], ◌∷◌, map, length, Option, Some, None, refl, sym, ap, ◌∙◌, subst, arith}
+use Rattle.std.specs.Prelude.{not, slice_get, is_none, is_some}
 use Rattle.std.specs.List.{list_all, list_any}
-use Rattle.std.proofs.lemmas.List.Folds.{list_all-append}
 use Rattle.nm_base.specs.declared.operator.Ctype.{Ctype}
 use Rattle.nm_base.specs.declared.operator.Ctype.TheVariants.{Int}
 use Rattle.nm_base.specs.declared.operator.BinaryOp.TheVariants.{Equal}
@@ -18,11 +17,12 @@ use Rattle.stack_code.specs.declared.instr.Instr.{Instr}
 use Rattle.stack_code.specs.declared.instr.Instr.TheVariants as instr
 use Rattle.stack_code.specs.Code.{Placed, FunctionCode, Code}
 use Rattle.stack_code.specs.Valid.{Operand, Value, Place, is_scalar_at}
-use Rattle.c_compile.specs.Asm.{one, end_of, ◌⨾◌, in_block}
+use Rattle.c_compile.specs.Asm.{end_of, ◌⨾◌}
 use Rattle.c_compile.specs.ExprCode.{Shape, expr_code}
 use Rattle.c_compile.specs.StmtCode as code_of
-use Rattle.c_compile.specs.StmtCode.{Exits, Blocks, StmtCode, ArmCode, put, value_code, test_code, effect_code, zeros, zero_by, start_by, starts, sequence_code, block_code, else_code, else_ends, if_code, while_code, do_code, for_code, switch_code, case_code, cases_code, arms_cases, arms_code, arms_ends, place_of_label, test_ends, effect_ends}
-use Rattle.c_compile.proofs.Lies.{LiesAt, split_at, end_at, in_block_at, in_block_length}
+use Rattle.c_compile.specs.StmtCode.{Exits, Blocks, StmtCode, ArmCode, put, value_code, test_code, effect_code, zeros, zero_by, start_by, starts, sequence_code, block_code, else_code, else_ends}
+use Rattle.c_compile.specs.StmtCode.{if_code, while_code, do_code, for_code, switch_code, case_code, cases_code, arms_cases, arms_code, arms_ends, place_of_label, test_ends, effect_ends}
+use Rattle.c_compile.proofs.Lies.{LiesAt, split_at, end_at, in_block_at}
 use Rattle.c_compile.proofs.Lengths as lengths
 use Rattle.c_compile.proofs.Parts.{both_true}
 use Rattle.c_compile.proofs.Finds as finds
@@ -414,7 +414,8 @@ module _ (code : Code) (f : FunctionCode) (names : Names) (knows : Knows code f 
       let tail1 = arms_cases sh cs start0 blocks ⨾ tail2 in
       let s1 = split_at f.steps (value_code sh on blocks (p + 1)) (tail1 m) (p + 1) q h.1 in
       let s2 = split_at f.steps (arms_cases sh cs start0 blocks m) (tail2 k) m q s1.1 in
-      let k_is : k ≡ end_of (arms_cases sh cs 0 []) cases0 = lengths.arms_cases_length sh cs start0 0 blocks [] m ∙ ap (λ n. end_of (arms_cases sh cs 0 []) n) (lengths.value_end sh blocks on (p + 1)) in
+      let m_is : m ≡ cases0 = lengths.value_end sh blocks on (p + 1) in
+      let k_is : k ≡ end_of (arms_cases sh cs 0 []) cases0 = lengths.arms_cases_length sh cs start0 0 blocks [] m ∙ ap (λ n. end_of (arms_cases sh cs 0 []) n) m_is in
       let start_is : start0 ≡ k + 1 + 1 = omega (arith, k_is) in
       let after_is : after0 ≡ q = ap (arms_ends sh cs) start_is ∙ sym (arms_end cs r inner blocks (k + 1 + 1)) ∙ end_at f.steps (arms_code sh cs inner blocks (k + 1 + 1)) (k + 1 + 1) q s2.1.1.1 in
       let targets = subst (λ j. Targets n cs j) (sym start_is) (arms_targets cs r inner blocks (k + 1 + 1) q n s2.1.1.1 g (moved after_is g) c) in

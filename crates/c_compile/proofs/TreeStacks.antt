@@ -1,26 +1,21 @@
 -- The code of every checked statement finds its operands: the induction over trees.
-use Rattle.std.proofs.Common.{◌≡◌, ℕ, ◌+◌, Bool, true, false, List, [], ◌∷◌, ◌++◌, map, length, Option, Some, None, refl, sym, ap, ◌∙◌, subst, arith}
-use Rattle.std.specs.Prelude.{◌&&◌}
+use Rattle.std.proofs.Common.{◌≡◌, ℕ, Bool, true, List, [], ◌∷◌, ◌++◌, map, Option, Some, None, sym, ◌∙◌, subst}
 use Rattle.std.specs.List.{list_all}
 use Rattle.std.proofs.lemmas.List.Folds.{list_all-append}
-use denote.Hole.Carrier.{out, roll}
 use Rattle.nm_base.specs.declared.operator.Ctype.{Ctype}
-use Rattle.c_tree.specs.declared.program.PArm.{PArm, roll-PArm, out-roll-PArm}
-use Rattle.c_tree.specs.declared.program.PStmt.{PStmt, roll-PStmt, out-PStmt, out-roll-PStmt}
+use Rattle.c_tree.specs.declared.program.PArm.{PArm, roll-PArm}
+use Rattle.c_tree.specs.declared.program.PStmt.{PStmt, roll-PStmt}
 use Rattle.c_tree.specs.declared.program.PStmt.TheOpen.{PStmt-F, PArm-F}
-use Rattle.c_tree.specs.declared.program.PStmt.TheBlock.{laid-PArm, the_family as stmt_family, the_fold as stmt_fold, body-PStmt, body-PArm, lays-PStmt, lays-PArm}
-use Rattle.c_tree.specs.declared.program.PStmt.TheFolds.{ind-PStmt, family as stmts, steps as stmt_steps, map-PStmt, map_is-PStmt, map-PArm, map_is-PArm}
+use Rattle.c_tree.specs.declared.program.PStmt.TheFolds.{ind-PStmt, map-PStmt, map-PArm}
 use Rattle.c_tree.specs.Typing.{Names}
-use Rattle.c_tree.specs.Checks.{Around, StmtCheck, ArmCheck, all_fine, arms_fine, blocks_of, blocks_of_arms, check_step, arm_step, check_of, in_loop, in_switch}
-use Rattle.stack_code.specs.declared.instr.Instr.TheVariants as instr
+use Rattle.c_tree.specs.Checks.{Around, StmtCheck, ArmCheck, all_fine, arms_fine, blocks_of, blocks_of_arms, check_step, check_of, in_loop, in_switch}
 use Rattle.stack_code.specs.Code.{Placed, FunctionCode, Code}
-use Rattle.c_compile.specs.Asm.{end_of, ◌⨾◌}
+use Rattle.c_compile.specs.Asm.{end_of}
 use Rattle.c_compile.specs.ExprCode.{Shape}
 use Rattle.c_compile.specs.StmtCode as code_of
 use Rattle.c_compile.specs.StmtCode.{Exits, Blocks, StmtCode, ArmCode, put, stmt_code, arm_code}
 use Rattle.c_compile.proofs.Levels.{stmt_code_roll, arm_code_roll, arm_check, check_roll, arm_check_roll}
 use Rattle.c_compile.proofs.Parts.{both_true}
-use Rattle.c_compile.proofs.Finds as finds
 use Rattle.c_compile.proofs.ExprStacks.{Knows}
 use Rattle.c_compile.proofs.StmtStacks as stacks
 use Rattle.c_compile.proofs.StmtStacks.{Passes, StmtPasses, AllPass, ArmPasses, AllArms, is_local}
@@ -39,7 +34,11 @@ module _ (code : Code) (f : FunctionCode) (names : Names) (knows : Knows code f 
   abbrev Passing : (Exits → Blocks → ℕ → List Placed) → Type 0
   Passing asm = Passes code f names knows result asm
 
-  module _ (ends : (x : PStmt) (exits : Exits) (blocks : Blocks) (p : ℕ) → end_of ((stmt_code sh x).code exits blocks) p ≡ (stmt_code sh x).ends p) (arm_ends : (x : PArm) (exits : Exits) (blocks : Blocks) (p : ℕ) → end_of ((arm_code sh x).code exits blocks) p ≡ (arm_code sh x).ends p) where
+  -- the code ends where its `ends` says
+  abbrev EndsAt : (Exits → Blocks → ℕ → List Placed) → (ℕ → ℕ) → Type 0
+  EndsAt asm last = (exits : Exits) (blocks : Blocks) (p : ℕ) → end_of (asm exits blocks) p ≡ last p
+
+  module _ (ends : (x : PStmt) → EndsAt (stmt_code sh x).code (stmt_code sh x).ends) (arm_ends : (x : PArm) → EndsAt (arm_code sh x).code (arm_code sh x).ends) where
     pub record TreePasses (c : StmtCode) : Type 0 where
       pub passes : Passing c.code
       pub body_passes : Passing c.body
@@ -71,7 +70,9 @@ module _ (code : Code) (f : FunctionCode) (names : Names) (knows : Knows code f 
         (whole x around b.0 c.0, all_pass xs around b.1 c.1)
 
     all_arms :
-        (xs : List ArmChild) (around : Around) → arms_fine (map (arm_check names result) (map (λ x. x.0) xs)) around ≡ true → all_local (blocks_of_arms (map (arm_check names result) (map (λ x. x.0) xs))) ≡ true
+        (xs : List ArmChild) (around : Around)
+        → arms_fine (map (arm_check names result) (map (λ x. x.0) xs)) around ≡ true
+        → all_local (blocks_of_arms (map (arm_check names result) (map (λ x. x.0) xs))) ≡ true
         → AllArms code f names knows result (map (arm_code sh) (map (λ x. x.0) xs))
     all_arms [] around h l = tt
     all_arms (x ∷ xs) around h l =
@@ -126,7 +127,9 @@ module _ (code : Code) (f : FunctionCode) (names : Names) (knows : Knows code f 
     rolled : (y : Layer) → StmtOk (roll-PStmt (map-PStmt Child ArmChild PStmt PArm (λ x. x.0) (λ x. x.0) y))
     rolled y around h l =
         let x = map-PStmt Child ArmChild PStmt PArm (λ x. x.0) (λ x. x.0) y in
-        subst TreePasses (sym (stmt_code_roll sh x)) (step_ok y around (subst (λ c. c.is_fine around ≡ true) (check_roll names result x) h) (subst (λ c. all_local c.blocks ≡ true) (check_roll names result x) l))
+        let fine = subst (λ c. c.is_fine around ≡ true) (check_roll names result x) h in
+        let locals = subst (λ c. all_local c.blocks ≡ true) (check_roll names result x) l in
+        subst TreePasses (sym (stmt_code_roll sh x)) (step_ok y around fine locals)
 
     arm_rolled : (y : PArm-F Child ArmChild) → ArmOk (roll-PArm (map-PArm Child ArmChild PStmt PArm (λ x. x.0) (λ x. x.0) y))
     arm_rolled y around h l =

@@ -8,7 +8,13 @@ use Rattle.c_compile.specs.StmtCode.{program_code}
 
 -- of every checked program
 abbrev pub CheckedIsSound : Type 0
-CheckedIsSound = (globals : List Global) (functions : List Function) (texts : List (List ℕ)) (main : ℕ) → IsTrue (is_checked globals functions texts main) → IsSound (program_code globals functions texts main)
+CheckedIsSound =
+    (globals : List Global) (functions : List Function) (texts : List (List ℕ)) (main : ℕ)
+    → IsTrue (is_checked globals functions texts main)
+    → IsSound (program_code globals functions texts main)
 
 abbrev pub CheckedIsWithin : Type 0
-CheckedIsWithin = (globals : List Global) (functions : List Function) (texts : List (List ℕ)) (main : ℕ) → IsTrue (is_checked globals functions texts main) → IsTrue (is_within (program_code globals functions texts main))
+CheckedIsWithin =
+    (globals : List Global) (functions : List Function) (texts : List (List ℕ)) (main : ℕ)
+    → IsTrue (is_checked globals functions texts main)
+    → IsTrue (is_within (program_code globals functions texts main))
