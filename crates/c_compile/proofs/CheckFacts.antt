@@ -21,6 +21,8 @@ outside = record { loop = false; breaks = false }
 pub record FunctionFacts (globals : List Global) (functions : List Function) (texts : List (List ℕ)) (f : Function) : Type 0 where
   pub params : list_all param_fits f.params ≡ true
   pub locals : list_all local_fits f.locals ≡ true
+  pub few_params : nat_le (length f.params) 31 ≡ true
+  pub few_slots : nat_le (length f.params + length f.locals) 256 ≡ true
   pub body : (check_of (names_of globals functions texts f) f.result f.body).is_fine outside ≡ true
   pub blocks : blocks_fit (f.params ++ f.locals) (length f.params) 0 (check_of (names_of globals functions texts f) f.result f.body).blocks ≡ true
 
@@ -46,7 +48,14 @@ module _ (globals : List Global) (functions : List Function) (texts : List (List
       let h3 = both_true (names && params && locals) few h4.0 in
       let h2 = both_true (names && params) locals h3.0 in
       let b = both_true (c.is_block && c.is_fine outside) (blocks_fit (f.params ++ f.locals) (length f.params) 0 c.blocks) h5.1 in
-      record { params = (both_true names params h2.0).1; locals = h2.1; body = (both_true c.is_block (c.is_fine outside) b.0).1; blocks = b.1 }
+      record {
+        params = (both_true names params h2.0).1;
+        locals = h2.1;
+        few_params = h3.1;
+        few_slots = h4.1;
+        body = (both_true c.is_block (c.is_fine outside) b.0).1;
+        blocks = b.1;
+      }
 
   pub program_facts : (main : ℕ) → is_checked globals functions texts main ≡ true → ProgramFacts globals functions texts main
   program_facts main h =

@@ -1,18 +1,18 @@
 -- The code of a checked program keeps the limits, and lays out the variables.
-use Rattle.std.proofs.Common.{◌≡◌, ℕ, zero, suc, ◌+◌, ◌≤◌, Bool, true, false, List, [], ◌∷◌, ◌++◌, map, length, take, drop, Option, Some, None, refl, sym, ap, ◌∙◌, subst, arith, length-append}
-use Rattle.std.specs.Prelude.{◌||◌, ◌==◌, not, nat_le, replicate, slice_get, is_none}
+use Rattle.std.proofs.Common.{◌≡◌, ℕ, zero, suc, ◌+◌, ◌*◌, ◌≤◌, Bool, true, false, List, [], ◌∷◌, ◌++◌, map, length, take, drop, Option, Some, None, refl, sym, ap, ◌∙◌, subst, arith, length-append}
+use Rattle.std.specs.Prelude.{◌&&◌, ◌||◌, ◌==◌, not, nat_lt, nat_le, replicate, slice_get, is_none, unwrap_or}
 use Rattle.std.specs.List.{list_all, list_any}
-use Rattle.std.proofs.lemmas.Bool.{eq-eqb, le-leb}
+use Rattle.std.proofs.lemmas.Bool.{eq-eqb, leb-true, le-leb}
 use Rattle.c_tree.specs.declared.program.Global.{Global}
 use Rattle.c_tree.specs.declared.program.Slot.{Slot}
 use Rattle.c_tree.specs.declared.program.Function.{Function}
 use Rattle.c_tree.specs.Storage.{words_of_global, words_of_slot, words_of, words_before, first_words}
 use Rattle.c_tree.specs.Expr.{slots_of}
 use Rattle.c_tree.specs.Checks as check
-use Rattle.c_tree.specs.Checks.{is_name, param_fits, local_fits, global_fits, main_fits, body_fits, check_of, names_of, is_checked}
+use Rattle.c_tree.specs.Checks.{is_name, is_size, param_fits, local_fits, main_fits, is_checked}
 use Rattle.stack_code.specs.declared.code.Variable.{Variable}
 use Rattle.stack_code.specs.Code.{FunctionCode, params_of}
-use Rattle.stack_code.specs.Valid.{Operand, Value, ArrayPlace, ArrayLength, operands_of, words_of_all, laid_out_from, is_scalar_at, is_array_at, is_array_param_at, is_whole_at}
+use Rattle.stack_code.specs.Valid.{operands_of, words_of_all, laid_out_from, is_scalar_at, is_array_at, is_array_param_at, is_whole_at}
 use Rattle.stack_code.specs.Valid.{is_length, is_fit_function, is_main, is_within}
 use Rattle.c_compile.specs.Variables.{variable_of_global, variable_of_slot, globals_from, slots_from}
 use Rattle.c_compile.specs.StmtCode.{function_code, program_code}
@@ -199,3 +199,64 @@ module _ (globals : List Global) (functions : List Function) (texts : List (List
       let h3 = and_true _ _ (and_true _ _ many (main_is functions main facts.main_fit)) facts.short_texts in
       let h5 = and_true _ _ (and_true _ _ h3 few) (globals_laid globals 0) in
       and_true _ _ (and_true _ _ (and_true _ _ h5 (eq-eqb _ _ sum)) (no_array_params globals 0)) (fit_functions functions facts.functions_fit)
+
+-- ---- bounds of words
+
+before_all : {A : Type 0} (size : A → ℕ) (xs : List A) (i : ℕ) → words_before size xs i ≤ words_of size xs
+before_all size [] i = omega arith
+before_all size (x ∷ xs) zero = omega arith
+before_all size (x ∷ xs) (suc i) = omega (arith, before_all size xs i)
+
+both_words : (ps ls : List Slot) → words_of words_of_slot (ps ++ ls) ≡ words_of words_of_slot ps + words_of words_of_slot ls
+both_words [] ls = omega arith
+both_words (p ∷ ps) ls = omega (arith, both_words ps ls)
+
+length_words : (o : Option ℕ) → is_size o ≡ true → unwrap_or o 1 ≤ 65536
+length_words None h = omega arith
+length_words (Some n) h = leb-true n 65536 (both_true (nat_lt 0 n) (nat_le n 65536) h).1
+
+param_words : (ps : List Slot) → list_all param_fits ps ≡ true → words_of words_of_slot ps ≤ 2 * length ps
+param_words [] h = omega arith
+param_words (p ∷ ps) h =
+    let b = both_true (param_fits p) (list_all param_fits ps) h in
+    let scalar = (both_true _ (is_none p.length) (both_true _ (p.block == 0) b.0).0).1 in
+    omega (arith, one p.array_param p.length scalar, param_words ps b.1)
+  where
+    one : (array : Bool) (o : Option ℕ) → is_none o ≡ true → words_of_slot (record p { array_param = array; length = o }) ≤ 2
+    one true o e = omega arith
+    one false None e = omega arith
+    one false (Some n) e = cc
+
+local_words : (ls : List Slot) → list_all local_fits ls ≡ true → words_of words_of_slot ls ≤ 65536 * length ls
+local_words [] h = omega arith
+local_words (x ∷ ls) h =
+    let b = both_true (local_fits x) (list_all local_fits ls) h in
+    let one = both_true (is_name x.name && is_size x.length) (not x.array_param) b.0 in
+    let sized = (both_true (is_name x.name) (is_size x.length) one.0).1 in
+    omega (arith, local x.array_param x.length one.1 sized, local_words ls b.1)
+  where
+    local : (array : Bool) (o : Option ℕ) → not array ≡ true → is_size o ≡ true → words_of_slot (record x { array_param = array; length = o }) ≤ 65536
+    local true o e h = cc
+    local false o e h = length_words o h
+
+module _ (globals : List Global) (functions : List Function) (texts : List (List ℕ)) (f : Function) (h : check.function_fits globals functions texts f ≡ true) where
+  -- a frame has at most 256 variables of at most 65,536 words each
+  pub frame_bound : words_of words_of_slot (slots_of f) ≤ 16777216
+  frame_bound =
+      let facts = function_facts globals functions texts f h in
+      let few = leb-true (length f.params + length f.locals) 256 facts.few_slots in
+      omega (arith, both_words f.params f.locals, param_words f.params facts.params, local_words f.locals facts.locals, few)
+
+  pub slot_bound : (i : ℕ) → words_before words_of_slot (slots_of f) i ≤ 16777216
+  slot_bound i = omega (arith, before_all words_of_slot (slots_of f) i, frame_bound)
+
+  pub params_bound : words_of words_of_slot f.params ≤ 62
+  params_bound =
+      let facts = function_facts globals functions texts f h in
+      omega (arith, param_words f.params facts.params, leb-true (length f.params) 31 facts.few_params)
+
+pub global_bound :
+    (globals : List Global) (functions : List Function) (texts : List (List ℕ)) (main i : ℕ) → is_checked globals functions texts main ≡ true → words_before words_of_global globals i ≤ 65536
+global_bound globals functions texts main i h =
+    let facts = program_facts globals functions texts main h in
+    omega (arith, before_all words_of_global globals i, leb-true (words_of words_of_global globals) 65536 facts.few_words)
