@@ -32,9 +32,23 @@ module _ (code : Code) (cx : Context) (limit : ℕ) where
   -- the function's code does what a call of it does after the event of its line
   pub record FunctionRuns (g : ℕ) (fn : Function) : Type 0 where
     pub steps : List Placed
-    pub code_is : slice_get code.functions g ≡ Some (record { name = fn.name; steps = steps; line = fn.line; param_words = words_of words_of_slot fn.params; frame_words = frame_words fn; param_count = length fn.params; slots = slots_from 0 (slots_of fn) })
+    pub code_is :
+        slice_get code.functions g
+        ≡ Some (record {
+          name = fn.name;
+          steps = steps;
+          line = fn.line;
+          param_words = words_of words_of_slot fn.params;
+          frame_words = frame_words fn;
+          param_count = length fn.params;
+          slots = slots_from 0 (slots_of fn);
+        })
     pub first : slice_get steps 0 ≡ Some (record { instr = instr.Line fn.line; entered = [] })
-    pub returns : (k : Caller) (ks : List Caller) (t : State) → t.left < limit → Gives code cx.count cx.me (Stands code cx.count cx.me (outer_blocks code cx.count cx.me (k ∷ ks)) (λ v. record { function = k.function; pc = k.pc + 1; stack = v ∷ k.stack; callers = ks })) (then_on (cx.call g (filled ([] ∷ outer_blocks code cx.count cx.me (k ∷ ks)) t)) leave) (record { function = g; pc = 1; stack = []; callers = k ∷ ks }) t
+    pub returns :
+        (k : Caller) (ks : List Caller) (t : State) → t.left < limit
+        → Gives code cx.count cx.me (Stands code cx.count cx.me (outer_blocks code cx.count cx.me (k ∷ ks))
+        (λ v. record { function = k.function; pc = k.pc + 1; stack = v ∷ k.stack; callers = ks })) (then_on (cx.call g (filled ([] ∷ outer_blocks code cx.count cx.me (k ∷ ks)) t)) leave)
+        (record { function = g; pc = 1; stack = []; callers = k ∷ ks }) t
 
   abbrev pub Functions : Type 0
   Functions = (g : ℕ) (fn : Function) → slice_get cx.functions g ≡ Some fn → FunctionRuns g fn
@@ -81,7 +95,8 @@ module _ (code : Code) (cx : Context) (f : ℕ) (callers : List Caller) (entered
   pub arguments_run : (xs : List Typed) (es : List TypedCode) → AllRun xs es → all_fit es ≡ true → RunsHere pushed (arguments xs) (argument_code es)
   arguments_run [] [] r fits = record {
     by = λ p q stack t le h.
-        subst (λ n. It (At (λ ws. here n (pushed ws stack))) (Done [] (filled blocks t)) (here p stack) t) h (gives_here code cx.count cx.me (At (λ ws. here p (pushed ws stack))) [] (filled blocks t) (here p stack) t (record { place = refl; state = refl }));
+        subst (λ n. It (At (λ ws. here n (pushed ws stack))) (Done [] (filled blocks t)) (here p stack) t) h
+        (gives_here code cx.count cx.me (At (λ ws. here p (pushed ws stack))) [] (filled blocks t) (here p stack) t (record { place = refl; state = refl }));
   }
   arguments_run [] (e ∷ es) r fits = absurd r
   arguments_run (x ∷ xs) [] r fits = absurd r
@@ -91,7 +106,8 @@ module _ (code : Code) (cx : Context) (f : ℕ) (callers : List Caller) (entered
         by = λ p q stack t le h.
             parts.seq code cx f callers entered limit (r.0.part.argument fit.0) (argument_code es) (λ first. arguments xs >>= (λ rest. pure (first ++ rest))) p q stack t le h (λ first u l h1.
             part_then code cx.count cx.me (λ rest. pure (first ++ rest)) l ((arguments_run xs es r.1 fit.1).by (end_of e.part.argument p) q (pushed first stack) u l h1) (λ rest w lw.
-            gives_here code cx.count cx.me (At (λ ws. here q (pushed ws stack))) (first ++ rest) (filled blocks w) (here q (pushed rest (pushed first stack))) w (record { place = ap (λ st. here q st) (pushed_append first rest stack); state = refl })));
+            gives_here code cx.count cx.me (At (λ ws. here q (pushed ws stack))) (first ++ rest) (filled blocks w) (here q (pushed rest (pushed first stack))) w
+            (record { place = ap (λ st. here q st) (pushed_append first rest stack); state = refl })));
       }
 
   two_widths : (n m : ℕ) (first : List ℕ) → length first ≡ n → (o : Outcome (List ℕ)) → HasWidth m o → HasWidth (n + m) (then_on o (λ rest. pure (first ++ rest)))
@@ -122,7 +138,9 @@ module _ (code : Code) (cx : Context) (f : ℕ) (callers : List Caller) (entered
   after_text_run (x ∷ xs) (e ∷ es) r = r.1
 
   -- arguments of a known number of words, and what is done with them
-  words_then : {B : Type 0} (ends : B → State → Control → State → Type 0) (n : ℕ) (o : Outcome (List ℕ)) (go : List ℕ → Run B) (to : List ℕ → Control) (c : Control) (t : State) → t.left ≤ limit → HasWidth n o → It (At to) o c t → ((ws : List ℕ) (u : State) → u.left ≤ limit → length ws ≡ n → It ends (go ws (filled blocks u)) (to ws) u) → It ends (then_on o go) c t
+  words_then :
+      {B : Type 0} (ends : B → State → Control → State → Type 0) (n : ℕ) (o : Outcome (List ℕ)) (go : List ℕ → Run B) (to : List ℕ → Control) (c : Control) (t : State) → t.left ≤ limit
+      → HasWidth n o → It (At to) o c t → ((ws : List ℕ) (u : State) → u.left ≤ limit → length ws ≡ n → It ends (go ws (filled blocks u)) (to ws) u) → It ends (then_on o go) c t
   words_then ends n (Done ws s) go to c t le w g k =
       let d = g.is.0 in
       let u = g.is.1 in
@@ -132,12 +150,16 @@ module _ (code : Code) (cx : Context) (f : ℕ) (callers : List Caller) (entered
   words_then ends n (Stopped status s) go to c t le w g k = record { is = g.is }
 
   -- an instruction that takes all words of the arguments
-  taking : (xs : List Typed) (es : List TypedCode) → AllRun xs es → all_fit es ≡ true → (i : Instr) (go : List ℕ → Run ℕ) → ((ws : List ℕ) → Blind (go ws)) → ((ws : List ℕ) (p : ℕ) (stack : List ℕ) (t : State) → length ws ≡ width_of es → does i (here p (pushed ws stack)) t ≡ then_on (go ws t) (λ a. pure (here (p + 1) (a ∷ stack)))) → Pushes (arguments xs >>= go) (argument_code es ⨾ one i)
+  taking :
+      (xs : List Typed) (es : List TypedCode) → AllRun xs es → all_fit es ≡ true → (i : Instr) (go : List ℕ → Run ℕ) → ((ws : List ℕ) → Blind (go ws))
+      → ((ws : List ℕ) (p : ℕ) (stack : List ℕ) (t : State) → length ws ≡ width_of es → does i (here p (pushed ws stack)) t ≡ then_on (go ws t) (λ a. pure (here (p + 1) (a ∷ stack))))
+      → Pushes (arguments xs >>= go) (argument_code es ⨾ one i)
   taking xs es r fits i go b e = record {
     by = λ p q stack t le h.
         let m = end_of (argument_code es) p in
         let s = block_split (steps_of code f) entered (argument_code es p) (i ∷ []) p q h in
-        words_then (At (λ v. here q (v ∷ stack))) (width_of es) (arguments xs (filled blocks t)) go (λ ws. here m (pushed ws stack)) (here p stack) t le (arguments_width xs es r (filled blocks t)) ((arguments_run xs es r fits).by p m stack t le s.0) (λ ws u l w.
+        words_then (At (λ v. here q (v ∷ stack))) (width_of es) (arguments xs (filled blocks t)) go (λ ws. here m (pushed ws stack)) (here p stack) t le
+        (arguments_width xs es r (filled blocks t)) ((arguments_run xs es r fits).by p m stack t le s.0) (λ ws u l w.
         parts.single code cx f callers entered limit (go ws) i m q (pushed ws stack) (λ a. a ∷ stack) u s.1 (b ws) (e ws m stack u w));
   }
 
@@ -173,9 +195,11 @@ module _ (code : Code) (cx : Context) (f : ℕ) (callers : List Caller) (entered
         taking xs es r fit.0 instr.Word (λ words. word_of (slice_index words 0)) (λ words. word_of_blind (slice_index words 0)) (λ ws p stack t w.
         ap (λ st. does instr.Word (here p st) t) (one_word ws stack (w ∙ eqb-true (width_of es) 1 fit.1)))
     built_in_runs built.Words xs es r fits =
-        parts.one_runs code cx f callers entered limit (λ v stack. v ∷ stack) (of_letter (λ m. pure (length m.words))) instr.Words (of_letter_blind (λ m. pure (length m.words)) (λ m. pure_blind (length m.words))) (λ p stack t. refl)
+        parts.one_runs code cx f callers entered limit (λ v stack. v ∷ stack) (of_letter (λ m. pure (length m.words))) instr.Words
+        (of_letter_blind (λ m. pure (length m.words)) (λ m. pure_blind (length m.words))) (λ p stack t. refl)
     built_in_runs built.From xs es r fits =
-        parts.one_runs code cx f callers entered limit (λ v stack. v ∷ stack) (of_letter (λ m. pure m.id.sender.no)) instr.From (of_letter_blind (λ m. pure m.id.sender.no) (λ m. pure_blind m.id.sender.no)) (λ p stack t. refl)
+        parts.one_runs code cx f callers entered limit (λ v stack. v ∷ stack) (of_letter (λ m. pure m.id.sender.no)) instr.From
+        (of_letter_blind (λ m. pure m.id.sender.no) (λ m. pure_blind m.id.sender.no)) (λ p stack t. refl)
     built_in_runs built.Via xs es r fits =
         parts.one_runs code cx f callers entered limit (λ v stack. v ∷ stack) (of_letter (λ m. pure m.chan)) instr.Via (of_letter_blind (λ m. pure m.chan) (λ m. pure_blind m.chan)) (λ p stack t. refl)
     built_in_runs built.Printf xs es r fits =
@@ -185,16 +209,20 @@ module _ (code : Code) (cx : Context) (f : ℕ) (callers : List Caller) (entered
         let fit = both_true (all_fit values) (width_of values == conversions text) fits in
         let same_text : unwrap_or (slice_get cx.texts (unwrap_or (meaning.text_of xs) 0)) [] ≡ text = ap (λ o. unwrap_or (slice_get cx.texts (unwrap_or o 0)) []) (text_same xs es r) in
         let text_is : text_at code cx.count cx.me i ≡ text = ap (λ l. unwrap_or (slice_get l i) []) texts in
-        subst (λ x. Pushes (arguments (meaning.after_text xs) >>= (λ vs. print (printed x vs))) (argument_code values ⨾ one (instr.Print i))) (sym same_text) (taking (meaning.after_text xs) values (after_text_run xs es r) fit.0 (instr.Print i) (λ vs. print (printed text vs)) (λ vs. print_blind (printed text vs)) (λ ws p stack t w.
+        subst (λ x. Pushes (arguments (meaning.after_text xs) >>= (λ vs. print (printed x vs))) (argument_code values ⨾ one (instr.Print i))) (sym same_text)
+        (taking (meaning.after_text xs) values (after_text_run xs es r) fit.0 (instr.Print i) (λ vs. print (printed text vs)) (λ vs. print_blind (printed text vs)) (λ ws p stack t w.
         let all : popped (conversions text) (pushed ws stack) [] ≡ (ws, stack) = popped_all (conversions text) ws stack (w ∙ eqb-true (width_of values) (conversions text) fit.1) in
-        ap (λ x. pushing p (print (printed x (popped (conversions x) (pushed ws stack) []).0) t) (popped (conversions x) (pushed ws stack) []).1) text_is ∙ ap (λ z. pushing p (print (printed text z.0) t) z.1) all))
+        ap (λ x. pushing p (print (printed x (popped (conversions x) (pushed ws stack) []).0) t) (popped (conversions x) (pushed ws stack) []).1) text_is ∙ ap
+        (λ z. pushing p (print (printed text z.0) t) z.1) all))
 
   -- ---- calls of functions
 
   abbrev caller : ℕ → List ℕ → Caller
   caller m stack = record { function = f; pc = m; stack = stack }
 
-  call_single : (g : ℕ) (fn : Function) → FunctionRuns code cx limit g fn → (ws : List ℕ) (m q : ℕ) (stack : List ℕ) (t : State) → t.left ≤ limit → length ws ≡ words_of words_of_slot fn.params → Lie m q (instr.Call g ∷ []) → It (At (λ v. here q (v ∷ stack))) (call_own_by cx.call g (Some fn) ws (filled blocks t)) (here m (pushed ws stack)) t
+  call_single :
+      (g : ℕ) (fn : Function) → FunctionRuns code cx limit g fn → (ws : List ℕ) (m q : ℕ) (stack : List ℕ) (t : State) → t.left ≤ limit → length ws ≡ words_of words_of_slot fn.params
+      → Lie m q (instr.Call g ∷ []) → It (At (λ v. here q (v ∷ stack))) (call_own_by cx.call g (Some fn) ws (filled blocks t)) (here m (pushed ws stack)) t
   call_single g fn r ws m q stack t le w h =
       let k = caller m stack in
       let callee : ℕ → Control = λ pc. record { function = g; pc = pc; stack = []; callers = k ∷ callers } in
@@ -204,10 +232,17 @@ module _ (code : Code) (cx : Context) (f : ℕ) (callers : List Caller) (entered
       let opens : does (instr.Call g) (here m (pushed ws stack)) t ≡ then_on (open_frame g fn.line (frame_words fn) ws t) (λ _. pure (callee 0)) =
       ap (λ o. machine.called g o (here m (pushed ws stack)) t) r.code_is
       ∙ ap (λ z. then_on (open_frame g fn.line (frame_words fn) z.0 t) (λ _. pure (record { function = g; pc = 0; stack = []; callers = caller m z.1 ∷ callers }))) (popped_all params ws stack w) in
-      part_then code cx.count cx.me (λ _. line_event fn.line >> (cx.call g >>= leave)) le (act_gives code cx.count cx.me (open_frame g fn.line (frame_words fn) ws) (instr.Call g) entered (here m (pushed ws stack)) t (λ bs. [] ∷ bs) (λ _. callee 0) h.0 (open_frame_moves g fn.line (frame_words fn) ws) opens) (λ _ u l.
-      subst (λ bs. It (Stands code cx.count cx.me bs (λ v. here q (v ∷ stack))) ((line_event fn.line >> (cx.call g >>= leave)) (filled ([] ∷ bs) u)) (callee 0) u) outer (subst (λ n. It (Stands code cx.count cx.me (outer_blocks code cx.count cx.me (k ∷ callers)) (λ v. here n (v ∷ stack))) ((line_event fn.line >> (cx.call g >>= leave)) (filled ([] ∷ outer_blocks code cx.count cx.me (k ∷ callers)) u)) (callee 0) u) h.1 (line_then code cx.count cx.me fn.line [] (callee 0) u (cx.call g >>= leave) first (λ s e. r.returns k callers s (omega (arith, e, l))))))
+      part_then code cx.count cx.me (λ _. line_event fn.line >> (cx.call g >>= leave)) le
+      (act_gives code cx.count cx.me (open_frame g fn.line (frame_words fn) ws) (instr.Call g) entered (here m (pushed ws stack)) t (λ bs. [] ∷ bs) (λ _. callee 0) h.0
+      (open_frame_moves g fn.line (frame_words fn) ws) opens) (λ _ u l.
+      subst (λ bs. It (Stands code cx.count cx.me bs (λ v. here q (v ∷ stack))) ((line_event fn.line >> (cx.call g >>= leave)) (filled ([] ∷ bs) u)) (callee 0) u) outer
+      (subst (λ n. It (Stands code cx.count cx.me (outer_blocks code cx.count cx.me (k ∷ callers)) (λ v. here n (v ∷ stack)))
+      ((line_event fn.line >> (cx.call g >>= leave)) (filled ([] ∷ outer_blocks code cx.count cx.me (k ∷ callers)) u)) (callee 0) u) h.1
+      (line_then code cx.count cx.me fn.line [] (callee 0) u (cx.call g >>= leave) first (λ s e. r.returns k callers s (omega (arith, e, l))))))
 
-  own_by : Functions code cx limit → (g : ℕ) (xs : List Typed) (es : List TypedCode) → AllRun xs es → all_fit es ≡ true → (o : Option Function) → slice_get cx.functions g ≡ o → code_of.is_width_of o (width_of es) ≡ true → Pushes (arguments xs >>= call_own_by cx.call g o) (argument_code es ⨾ one (instr.Call g))
+  own_by :
+      Functions code cx limit → (g : ℕ) (xs : List Typed) (es : List TypedCode) → AllRun xs es → all_fit es ≡ true → (o : Option Function) → slice_get cx.functions g ≡ o
+      → code_of.is_width_of o (width_of es) ≡ true → Pushes (arguments xs >>= call_own_by cx.call g o) (argument_code es ⨾ one (instr.Call g))
   own_by functions g xs es r fits None e w = absurd (false_true w)
     where
       false_true : false ≡ true → ⊥
@@ -216,11 +251,14 @@ module _ (code : Code) (cx : Context) (f : ℕ) (callers : List Caller) (entered
     by = λ p q stack t le h.
         let m = end_of (argument_code es) p in
         let s = block_split (steps_of code f) entered (argument_code es p) (instr.Call g ∷ []) p q h in
-        words_then (At (λ v. here q (v ∷ stack))) (width_of es) (arguments xs (filled blocks t)) (call_own_by cx.call g (Some fn)) (λ ws. here m (pushed ws stack)) (here p stack) t le (arguments_width xs es r (filled blocks t)) ((arguments_run xs es r fits).by p m stack t le s.0) (λ ws u l n.
+        words_then (At (λ v. here q (v ∷ stack))) (width_of es) (arguments xs (filled blocks t)) (call_own_by cx.call g (Some fn)) (λ ws. here m (pushed ws stack)) (here p stack) t le
+        (arguments_width xs es r (filled blocks t)) ((arguments_run xs es r fits).by p m stack t le s.0) (λ ws u l n.
         call_single g fn (functions g fn e) ws m q stack u l (n ∙ eqb-true (width_of es) (words_of words_of_slot fn.params) w) s.1);
   }
 
-  pub called_runs : code.texts ≡ cx.texts → Functions code cx limit → (what : Callee) (xs : List Typed) (es : List TypedCode) → AllRun xs es → (code_of.called sh what es).1 ≡ true → Pushes (meaning.called cx what xs) (code_of.called sh what es).0
+  pub called_runs :
+      code.texts ≡ cx.texts → Functions code cx limit → (what : Callee) (xs : List Typed) (es : List TypedCode) → AllRun xs es → (code_of.called sh what es).1 ≡ true
+      → Pushes (meaning.called cx what xs) (code_of.called sh what es).0
   called_runs texts functions (Own g) xs es r fits =
       let fit = both_true (all_fit es) (code_of.is_width_of (slice_get cx.functions g) (width_of es)) fits in
       own_by functions g xs es r fit.0 (slice_get cx.functions g) refl fit.1

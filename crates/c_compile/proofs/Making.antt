@@ -43,14 +43,14 @@ pub slots_end : (xs : List Slot) (i place : ℕ) (made whole : List Variable) �
 slots_end xs i place made whole e inv =
     sym (append-nil made) ∙ ap (λ l. made ++ slots_from place l) (sym (drop_all xs)) ∙ ap (λ n. made ++ slots_from place (drop n xs)) (sym e) ∙ inv
 
-pub words_more : (xs : List Slot) (i words next whole : ℕ) (x : Slot) → i < length xs → x ≡ get_or xs i x → next ≡ words + words_of_slot x → words + words_of words_of_slot (drop i xs) ≡ whole → next + words_of words_of_slot (drop (i + 1) xs) ≡ whole
-words_more xs i words next whole x lt is at inv =
-    let d = ap (words_of words_of_slot) (drops xs i x lt is) in
+pub words_more : {A : Type 0} (size : A → ℕ) (xs : List A) (i words next whole : ℕ) (x : A) → i < length xs → x ≡ get_or xs i x → next ≡ words + size x → words + words_of size (drop i xs) ≡ whole → next + words_of size (drop (i + 1) xs) ≡ whole
+words_more size xs i words next whole x lt is at inv =
+    let d = ap (words_of size) (drops xs i x lt is) in
     omega (arith, d, at, inv)
 
-pub words_end : (xs : List Slot) (i words whole : ℕ) → i ≡ length xs → words + words_of words_of_slot (drop i xs) ≡ whole → words ≡ whole
-words_end xs i words whole e inv =
-    let d = ap (λ n. words_of words_of_slot (drop n xs)) e ∙ ap (words_of words_of_slot) (drop_all xs) in
+pub words_end : {A : Type 0} (size : A → ℕ) (xs : List A) (i words whole : ℕ) → i ≡ length xs → words + words_of size (drop i xs) ≡ whole → words ≡ whole
+words_end size xs i words whole e inv =
+    let d = ap (λ n. words_of size (drop n xs)) e ∙ ap (words_of size) (drop_all xs) in
     omega (arith, d, inv)
 
 -- of parameters and locals

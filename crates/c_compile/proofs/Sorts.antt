@@ -1,9 +1,8 @@
 -- In a checked expression each call passes as many words as it must.
-use Rattle.std.proofs.Common.{◌≡◌, ℕ, Bool, true, false, List, [], ◌∷◌, map, length, Option, Some, None, refl, sym, ap, ◌∙◌, subst, arith}
+use Rattle.std.proofs.Common.{◌≡◌, ℕ, Bool, true, false, List, [], ◌∷◌, map, length, Option, Some, None, refl, sym, ◌∙◌, subst, arith}
 use Rattle.std.specs.Prelude.{◌&&◌, ◌==◌, not, nat_le, slice_get, unwrap_or, is_none}
 use Rattle.std.specs.List.{list_all}
 use Rattle.std.proofs.lemmas.Bool.{eqb-true, eq-eqb, leb-true, le-leb}
-use denote.Hole.Carrier.{out}
 use Rattle.nm_base.specs.declared.operator.Ctype.{Ctype}
 use Rattle.nm_base.specs.declared.operator.Ctype.TheVariants.{Int}
 use Rattle.nm_base.specs.Word.{common_type}
@@ -17,18 +16,19 @@ use Rattle.c_tree.specs.declared.program.Callee.TheVariants.{Function as Own, Bu
 use Rattle.c_tree.specs.declared.program.BuiltIn.{BuiltIn}
 use Rattle.c_tree.specs.declared.program.BuiltIn.TheVariants as built
 use Rattle.c_tree.specs.declared.program.PExpr.{PExpr}
-use Rattle.c_tree.specs.declared.program.PKind.{PKind, roll-PKind, out-PKind, out-roll-PKind}
+use Rattle.c_tree.specs.declared.program.PKind.{PKind, roll-PKind}
 use Rattle.c_tree.specs.declared.program.PKind.TheOpen.{PKind-F, PExpr-F}
-use Rattle.c_tree.specs.declared.program.PKind.TheBlock.{laid-PKind, the_family as expr_family, the_fold as expr_fold, body-PKind, lays-PKind}
-use Rattle.c_tree.specs.declared.program.PKind.TheFolds.{ind-PKind, family as kinds, steps as kind_steps, map-PKind, map_is-PKind}
+use Rattle.c_tree.specs.declared.program.PKind.TheFolds.{ind-PKind, map-PKind}
 use Rattle.c_tree.specs.Storage.{words_of_slot, words_of}
-use Rattle.c_tree.specs.Typing.{Sort, Value, Void, Array, Text, Wrong, Names, agreed, is_typed, is_value, is_effect, with_type, with_place, where_true, element_of, const_of, comma_of, result_of, sort_of_global, sort_of_slot, sort_of_target, sort_of_call, call_of_function, fit_params, fits_param, all_values, fits_format, fits_printf, fits_built_in, is_count, conversions_from, same_type, sort_step, typed_step, sort_of}
+use Rattle.c_tree.specs.Typing.{Sort, Value, Void, Array, Text, Wrong, Names, agreed, is_typed, is_value, is_effect, with_type, with_place, where_true, element_of, const_of, comma_of, result_of}
+use Rattle.c_tree.specs.Typing.{sort_of_global, sort_of_slot, sort_of_target, sort_of_call, call_of_function, fit_params, fits_param, all_values, fits_format, fits_printf, fits_built_in}
+use Rattle.c_tree.specs.Typing.{is_count, conversions_from, same_type, sort_step, sort_of}
 use Rattle.c_tree.specs.Checks.{param_fits}
 use Rattle.stack_code.specs.Machine.{conversions}
 use Rattle.c_compile.specs.Asm.{Asm, one}
 use Rattle.c_compile.specs.ExprCode as code_of
 use Rattle.c_compile.specs.ExprCode.{Shape, ExprCode, TypedCode, kind_code, typed_code, expr_code, width_of, all_fit}
-use Rattle.c_compile.proofs.Levels.{code_roll}
+use Rattle.c_compile.proofs.Levels.{code_roll, kind_sort, sort_roll}
 use Rattle.c_compile.proofs.Parts.{both_true}
 
 -- what the sort of an expression says of its code
@@ -106,7 +106,9 @@ where_true_fits : (b : Bool) (s : Sort) (d : ExprCode) → (b ≡ true → SortF
 where_true_fits true s d k = k refl
 where_true_fits false s d k = tt
 
-choose_fits : (t a b : Sort) (ct ca cb d : ExprCode) → SortFits t ct → SortFits a ca → SortFits b cb → (ct.fits ≡ true → ca.fits ≡ true → cb.fits ≡ true → d.fits ≡ true) → d.width ≡ 1 → SortFits (where_true (is_value t) (with_type a (λ x. with_type b (λ y. Value (common_type x y) false)))) d
+choose_fits :
+    (t a b : Sort) (ct ca cb d : ExprCode) → SortFits t ct → SortFits a ca → SortFits b cb → (ct.fits ≡ true → ca.fits ≡ true → cb.fits ≡ true → d.fits ≡ true) → d.width ≡ 1
+    → SortFits (where_true (is_value t) (with_type a (λ x. with_type b (λ y. Value (common_type x y) false)))) d
 choose_fits t a b ct ca cb d ft fa fb k w =
     where_true_fits (is_value t) (with_type a (λ x. with_type b (λ y. Value (common_type x y) false))) d (λ h.
     with_type_fits a ca d (λ x. with_type b (λ y. Value (common_type x y) false)) fa (λ x f.
@@ -165,7 +167,9 @@ param_facts Void x c h f n = cc
 param_facts (Text text) x c h f n = cc
 param_facts Wrong x c h f n = cc
 
-params_fit : (ss : List Sort) (es : List TypedCode) (xs : List Slot) → AllSorts ss es → fit_params ss xs ≡ true → list_all param_fits xs ≡ true → (all_fit es ≡ true) × (width_of es ≡ words_of words_of_slot xs)
+params_fit :
+    (ss : List Sort) (es : List TypedCode) (xs : List Slot) → AllSorts ss es → fit_params ss xs ≡ true → list_all param_fits xs ≡ true
+    → (all_fit es ≡ true) × (width_of es ≡ words_of words_of_slot xs)
 params_fit [] [] [] r h p = (refl, refl)
 params_fit [] [] (x ∷ xs) r h p = cc
 params_fit [] (e ∷ es) xs r h p = absurd r
@@ -183,7 +187,9 @@ module _ (names : Names) (params : (g : ℕ) (fn : Function) → slice_get names
   abbrev sh : Shape
   sh = record { globals = names.globals; functions = names.functions; texts = names.texts; slots = names.slots }
 
-  own_fits : (g : ℕ) (asm : Asm) (o : Option Function) → slice_get names.functions g ≡ o → (ss : List Sort) (es : List TypedCode) → AllSorts ss es → SortFits (call_of_function o ss) (code_of.valued asm (all_fit es && code_of.is_width_of o (width_of es)))
+  own_fits :
+      (g : ℕ) (asm : Asm) (o : Option Function) → slice_get names.functions g ≡ o → (ss : List Sort) (es : List TypedCode) → AllSorts ss es
+      → SortFits (call_of_function o ss) (code_of.valued asm (all_fit es && code_of.is_width_of o (width_of es)))
   own_fits g asm None e ss es r = tt
   own_fits g asm (Some fn) e ss es r =
       where_true_fits (fit_params ss fn.params) (result_of fn.result) _ (λ h.
@@ -202,7 +208,9 @@ module _ (names : Names) (params : (g : ℕ) (fn : Function) → slice_get names
       let n = count_facts (conversions_from false text) (length ss) b.1 in
       and_true (all_fit es) (width_of es == conversions text) v.0 (eq-eqb (width_of es) (conversions text) (v.1 ∙ sym n))
 
-  printf_facts : (ss : List Sort) (es : List TypedCode) → AllSorts ss es → fits_printf names.texts ss ≡ true → (all_fit (code_of.after_text es) && width_of (code_of.after_text es) == conversions (unwrap_or (slice_get names.texts (unwrap_or (code_of.text_of es) 0)) [])) ≡ true
+  printf_facts :
+      (ss : List Sort) (es : List TypedCode) → AllSorts ss es → fits_printf names.texts ss ≡ true
+      → (all_fit (code_of.after_text es) && width_of (code_of.after_text es) == conversions (unwrap_or (slice_get names.texts (unwrap_or (code_of.text_of es) 0)) [])) ≡ true
   printf_facts [] es r h = cc
   printf_facts (s ∷ ss) [] r h = absurd r
   printf_facts (Text text ∷ ss) (e ∷ es) r h =
@@ -236,7 +244,9 @@ module _ (names : Names) (params : (g : ℕ) (fn : Function) → slice_get names
   built_facts built.Via ss es r h = refl
   built_facts built.Printf ss es r h = printf_facts ss es r (both_true (nat_le (length ss) 31) (fits_printf names.texts ss) h).1
 
-  call_fits : (what : Callee) (ss : List Sort) (es : List TypedCode) → AllSorts ss es → SortFits (sort_of_call names what ss) (code_of.valued (code_of.called sh what es).0 (code_of.called sh what es).1)
+  call_fits :
+      (what : Callee) (ss : List Sort) (es : List TypedCode) → AllSorts ss es
+      → SortFits (sort_of_call names what ss) (code_of.valued (code_of.called sh what es).0 (code_of.called sh what es).1)
   call_fits (Own g) ss es r = own_fits g _ (slice_get names.functions g) refl ss es r
   call_fits (Built b) ss es r = where_true_fits (fits_built_in names.texts b ss) (Value Int false) _ (λ h. (built_facts b ss es r h, refl))
 
@@ -246,7 +256,10 @@ module _ (names : Names) (params : (g : ℕ) (fn : Function) → slice_get names
   global_fits base place None = tt
   global_fits base place (Some g) = by_length g.length
     where
-      by_length : (n : Option ℕ) → SortFits (sort_of_global (Some (record g { length = n }))) (code_of.placed place (code_of.global_argument sh base (Some (record g { length = n }))).0 (code_of.global_argument sh base (Some (record g { length = n }))).1 true)
+      by_length :
+          (n : Option ℕ)
+          → SortFits (sort_of_global (Some (record g { length = n })))
+          (code_of.placed place (code_of.global_argument sh base (Some (record g { length = n }))).0 (code_of.global_argument sh base (Some (record g { length = n }))).1 true)
       by_length None = (refl, refl)
       by_length (Some n) = (refl, refl)
 
@@ -254,7 +267,11 @@ module _ (names : Names) (params : (g : ℕ) (fn : Function) → slice_get names
   slot_fits base place None = tt
   slot_fits base place (Some x) = by_kind x.array_param x.length
     where
-      by_kind : (b : Bool) (n : Option ℕ) → SortFits (sort_of_slot (Some (record x { array_param = b; length = n }))) (code_of.placed place (code_of.slot_argument sh base (Some (record x { array_param = b; length = n }))).0 (code_of.slot_argument sh base (Some (record x { array_param = b; length = n }))).1 true)
+      by_kind :
+          (b : Bool) (n : Option ℕ)
+          → SortFits (sort_of_slot (Some (record x { array_param = b; length = n })))
+          (code_of.placed place (code_of.slot_argument sh base (Some (record x { array_param = b; length = n }))).0
+          (code_of.slot_argument sh base (Some (record x { array_param = b; length = n }))).1 true)
       by_kind true n = (refl, refl)
       by_kind false None = (refl, refl)
       by_kind false (Some n) = (refl, refl)
@@ -265,26 +282,14 @@ module _ (names : Names) (params : (g : ℕ) (fn : Function) → slice_get names
 
   -- ---- the induction
 
-  abbrev kind_sort : PKind → Option Ctype → Sort
-  kind_sort k = laid-PKind (kinds (Option Ctype → Sort) Sort) (kind_steps (Option Ctype → Sort) Sort (sort_step names) (typed_step names)) k
-
-  sort_roll : (x : PKind-F PKind PExpr) → kind_sort (roll-PKind x) ≡ sort_step names (map-PKind PKind PExpr (Option Ctype → Sort) Sort kind_sort (sort_of names) x)
-  unfolding out-PKind roll-PKind out
-  sort_roll x =
-      let A = kinds (Option Ctype → Sort) Sort in
-      let S = kind_steps (Option Ctype → Sort) Sort (sort_step names) (typed_step names) in
-      lays-PKind A S (roll-PKind x)
-      ∙ ap (λ l. sort_step names ((body-PKind).map expr_family A (expr_fold A S) l)) (out-roll-PKind x)
-      ∙ ap (sort_step names) (map_is-PKind expr_family A (expr_fold A S) x)
-
   abbrev KindFits : PKind → Type 0
-  KindFits k = (written : Option Ctype) → SortFits (kind_sort k written) (kind_code sh k)
+  KindFits k = (written : Option Ctype) → SortFits (kind_sort names k written) (kind_code sh k)
 
   abbrev Child : Type 0
   Child = (e : PExpr) × KindFits e.kind
 
   child_fits : (e : Child) → SortFits (sort_of names e.0) (typed_code sh e.0).part
-  child_fits e = agreed_fits (kind_sort e.0.kind e.0.of) e.0.of (kind_code sh e.0.kind) (e.1 e.0.of)
+  child_fits e = agreed_fits (kind_sort names e.0.kind e.0.of) e.0.of (kind_code sh e.0.kind) (e.1 e.0.of)
 
   all_sorts : (es : List Child) → AllSorts (map (sort_of names) (map (λ e. e.0) es)) (map (typed_code sh) (map (λ e. e.0) es))
   all_sorts [] = tt
@@ -297,7 +302,11 @@ module _ (names : Names) (params : (g : ℕ) (fn : Function) → slice_get names
   const_fits None d f w = tt
   const_fits (Some of) d f w = (f, w)
 
-  step_fits : (y : Layer) (written : Option Ctype) → SortFits (sort_step names (map-PKind PKind PExpr (Option Ctype → Sort) Sort kind_sort (sort_of names) (map-PKind ((k : PKind) × KindFits k) Child PKind PExpr (λ k. k.0) (λ e. e.0) y)) written) (code_of.kind_step sh (map-PKind PKind PExpr ExprCode TypedCode (kind_code sh) (typed_code sh) (map-PKind ((k : PKind) × KindFits k) Child PKind PExpr (λ k. k.0) (λ e. e.0) y)))
+  step_fits :
+      (y : Layer) (written : Option Ctype)
+      → SortFits (sort_step names (map-PKind PKind PExpr (Option Ctype → Sort) Sort (kind_sort names) (sort_of names)
+      (map-PKind ((k : PKind) × KindFits k) Child PKind PExpr (λ k. k.0) (λ e. e.0) y)) written)
+      (code_of.kind_step sh (map-PKind PKind PExpr ExprCode TypedCode (kind_code sh) (typed_code sh) (map-PKind ((k : PKind) × KindFits k) Child PKind PExpr (λ k. k.0) (λ e. e.0) y)))
   step_fits (PKind-F.Const bits) written = const_fits written _ refl refl
   step_fits (PKind-F.Text text) written = where_true_fits _ (Text text) _ (λ _. refl)
   step_fits (PKind-F.Name what) written = name_fits what (one (code_of.place_instr sh what))
@@ -322,7 +331,8 @@ module _ (names : Names) (params : (g : ℕ) (fn : Function) → slice_get names
   rolled : (y : Layer) → KindFits (roll-PKind (map-PKind ((k : PKind) × KindFits k) Child PKind PExpr (λ k. k.0) (λ e. e.0) y))
   rolled y written =
       let x = map-PKind ((k : PKind) × KindFits k) Child PKind PExpr (λ k. k.0) (λ e. e.0) y in
-      subst (λ s. SortFits (s written) (kind_code sh (roll-PKind x))) (sym (sort_roll x)) (subst (λ c. SortFits (sort_step names (map-PKind PKind PExpr (Option Ctype → Sort) Sort kind_sort (sort_of names) x) written) c) (sym (code_roll sh x)) (step_fits y written))
+      subst (λ s. SortFits (s written) (kind_code sh (roll-PKind x))) (sym (sort_roll names x))
+      (subst (λ c. SortFits (sort_step names (map-PKind PKind PExpr (Option Ctype → Sort) Sort (kind_sort names) (sort_of names) x) written) c) (sym (code_roll sh x)) (step_fits y written))
 
   kind_fits : (k : PKind) → KindFits k
   kind_fits = ind-PKind KindFits (λ e. KindFits e.kind) (λ x y is. subst (λ z. KindFits (roll-PKind z)) is (rolled y)) (λ x y is. subst (λ (z : PExpr-F PKind PExpr). KindFits z.kind) is y.kind.1)

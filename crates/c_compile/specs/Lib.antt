@@ -5,3 +5,4 @@ pub mod StmtCode
 pub mod Correct
 pub mod Emitted
 pub mod Body
+pub mod Sound

@@ -4,7 +4,7 @@ ghost use Rattle.std.specs.Prelude.{◌≡◌, ◌+◌, ◌++◌, OnOk, IfOk, Is
 ghost use Rattle.c_tree.specs.Checks.{is_name};
 ghost use Rattle.c_tree.specs.Expr.{slots_of};
 ghost use Rattle.c_tree.specs.Storage as storage;
-ghost use Rattle.c_tree.specs.Storage.{words_of, words_of_slot};
+ghost use Rattle.c_tree.specs.Storage.{words_of, words_of_global, words_of_slot};
 ghost use Rattle.c_compile.specs.Variables.{globals_from, slots_from};
 
 use crate::access::{global_words, slot_words, sum_of};
@@ -78,6 +78,17 @@ pub fn words_of_slots(slots: &[Slot]) -> Result<u32, WantOfMemory>
     let mut words: u32 = 0;
     for slot in slots {
         words = sum_of(words, slot_words(slot))?;
+    }
+    Ok(words)
+}
+
+/// The words of all globals.
+pub fn words_of_globals(globals: &[Global]) -> Result<u32, WantOfMemory>
+    ensures { IfOk result (λ words. words ≡ words_of words_of_global globals.now) }
+{
+    let mut words: u32 = 0;
+    for global in globals {
+        words = sum_of(words, global_words(global))?;
     }
     Ok(words)
 }
