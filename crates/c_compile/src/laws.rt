@@ -1,0 +1,11 @@
+//! The laws of the code of programs.
+
+ghost use Rattle.c_compile.specs.Sound.{CheckedIsSound, CheckedIsWithin};
+
+/// The code of every checked program can be run with no test of its own: whatever way control takes,
+/// each instruction finds the operands that it takes and names a variable as what it is, a jump back
+/// leads to a Line, and the limits hold.
+pub fn law_of_sound_code()
+    ensures sound { CheckedIsSound }
+    ensures within { CheckedIsWithin }
+{}
