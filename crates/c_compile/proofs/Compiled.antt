@@ -1,14 +1,16 @@
 -- The code of a program, as it is made.
-use Rattle.std.proofs.Common.{◌≡◌, ℕ, zero, suc, ◌+◌, ◌<◌, Bool, true, List, [], ◌∷◌, ◌++◌, map, length, drop, get_or, Some, refl, sym, ap, ◌∙◌, subst, arith, append_assoc}
+use Rattle.std.proofs.Common.{◌≡◌, ℕ, zero, suc, ◌+◌, ◌^◌, ◌<◌, Bool, true, List, [], ◌∷◌, ◌++◌, map, length, drop, get_or, Some, refl, sym, ap, ◌∙◌, subst, arith, append_assoc}
 use Rattle.std.specs.Prelude.{◌&&◌}
 use Rattle.std.specs.List.{list_all}
+use Rattle.std.proofs.lemmas.Bool.{leb-true}
 use Rattle.std.proofs.lemmas.List.{append-nil}
 use Rattle.std.proofs.lemmas.List.Folds.{list_all-append}
 use Rattle.c_tree.specs.declared.program.Global.{Global}
 use Rattle.c_tree.specs.declared.program.Function.{Function}
 use Rattle.c_tree.specs.Checks as check
 use Rattle.c_tree.specs.Checks.{is_name, is_checked}
-use Rattle.c_tree.specs.Storage.{first_words}
+use Rattle.c_tree.specs.Expr.{slots_of}
+use Rattle.c_tree.specs.Storage.{words_of, words_of_global, words_of_slot, first_words}
 use Rattle.stack_code.specs.declared.code.CodeFunction.{CodeFunction}
 use Rattle.stack_code.specs.declared.code.Variable.{Variable}
 use Rattle.stack_code.specs.Code.{FunctionCode, Code}
@@ -19,6 +21,7 @@ use Rattle.c_compile.specs.Correct.{StandsFor}
 use Rattle.c_compile.proofs.Parts.{both_true}
 use Rattle.c_compile.proofs.CheckFacts.{program_facts, function_facts}
 use Rattle.c_compile.proofs.Checked.{checked_stands}
+use Rattle.c_compile.proofs.Limits.{frame_bound}
 use Rattle.c_compile.proofs.Writing.{drops, drop_all}
 
 all_at : {A : Type 0} (test : A → Bool) (xs : List A) (i : ℕ) (x : A) → list_all test xs ≡ true → i < length xs → x ≡ get_or xs i x → test x ≡ true
@@ -31,6 +34,18 @@ pub function_named : (globals : List Global) (functions : List Function) (texts 
 function_named globals functions texts main i f ok lt is =
     let all = (program_facts globals functions texts main ok).functions_fit in
     (function_facts globals functions texts f (all_at (check.function_fits globals functions texts) functions i f all lt is)).name
+
+-- its frame and the globals have few words
+pub frame_fits : (globals : List Global) (functions : List Function) (texts : List (List ℕ)) (main i : ℕ) (f : Function) → is_checked globals functions texts main ≡ true → i < length functions → f ≡ get_or functions i f → words_of words_of_slot (slots_of f) < 2 ^ 32
+frame_fits globals functions texts main i f ok lt is =
+    let all = (program_facts globals functions texts main ok).functions_fit in
+    let bound = frame_bound globals functions texts f (all_at (check.function_fits globals functions texts) functions i f all lt is) in
+    omega (arith, bound)
+
+pub globals_fit : (globals : List Global) (functions : List Function) (texts : List (List ℕ)) (main : ℕ) → is_checked globals functions texts main ≡ true → words_of words_of_global globals < 2 ^ 32
+globals_fit globals functions texts main ok =
+    let bound = leb-true (words_of words_of_global globals) 65536 (program_facts globals functions texts main ok).few_words in
+    omega (arith, bound)
 
 map_both : {A B : Type 0} (f : A → B) (xs ys : List A) → map f (xs ++ ys) ≡ map f xs ++ map f ys
 map_both f [] ys = refl

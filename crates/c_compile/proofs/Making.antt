@@ -53,6 +53,11 @@ words_end size xs i words whole e inv =
     let d = ap (λ n. words_of size (drop n xs)) e ∙ ap (words_of size) (drop_all xs) in
     omega (arith, d, inv)
 
+pub words_fit : {A : Type 0} (size : A → ℕ) (xs : List A) (i words n whole limit : ℕ) (x : A) → i < length xs → x ≡ get_or xs i x → n ≡ size x → words + words_of size (drop i xs) ≡ whole → whole < limit → words + n < limit
+words_fit size xs i words n whole limit x lt is at inv h =
+    let d = ap (words_of size) (drops xs i x lt is) in
+    omega (arith, d, at, inv, h)
+
 -- of parameters and locals
 pub slots_both : (place : ℕ) (xs ys : List Slot) → slots_from place (xs ++ ys) ≡ slots_from place xs ++ slots_from (place + words_of words_of_slot xs) ys
 slots_both place [] ys = let e : place ≡ place + 0 = omega arith in ap (λ n. slots_from n ys) e

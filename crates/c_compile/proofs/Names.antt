@@ -152,9 +152,9 @@ module _ (globals : List Global) (slots : List Slot) where
     all_globals : IsTold (option_map as_global (first_named name (globals_from 0 globals))) (in_globals name 0 globals)
     all_globals =
         globals_told 0 0 globals (λ k of.
-            let e : 0 + k ≡ k = omega arith in
-            let w : words_before words_of_global globals k ≡ 0 + words_before words_of_global globals k = omega arith in
-            ap (λ n. found_of globals slots (AGlobal n) of) e ∙ ap (λ n. option_map (told.as_global n of) (slice_get globals k)) w)
+        let e : 0 + k ≡ k = omega arith in
+        let w : words_before words_of_global globals k ≡ 0 + words_before words_of_global globals k = omega arith in
+        ap (λ n. found_of globals slots (AGlobal n) of) e ∙ ap (λ n. option_map (told.as_global n of) (slice_get globals k)) w)
 
 -- ---- functions
 

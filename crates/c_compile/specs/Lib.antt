@@ -7,3 +7,4 @@ pub mod Emitted
 pub mod Body
 pub mod Sound
 pub mod Told
+pub mod Example

@@ -1,13 +1,12 @@
 //! How code names variables.
 
-ghost use Rattle.std.specs.Prelude.{◌≡◌, ◌+◌, IfOk, slice_get};
+ghost use Rattle.std.specs.Prelude.{◌≡◌, slice_get};
 ghost use Rattle.std.specs.Option.{option_copied};
 ghost use Rattle.c_tree.specs.Storage.{words_of_global, words_of_slot};
 ghost use Rattle.c_compile.specs.ExprCode as spec;
 ghost use Rattle.c_compile.specs.Emitted.{passed};
 
 use c_tree::{Global, Slot};
-use nm_base::WantOfMemory;
 use stack_code::{Instr, Variable};
 
 /// The words of a global.
@@ -26,13 +25,6 @@ pub fn slot_words(slot: &Slot) -> u32
     } else {
         slot.length.unwrap_or(1)
     }
-}
-
-/// The sum of two numbers. One that doesn't fit in 32 bits answers `WantOfMemory`.
-pub fn sum_of(a: u32, b: u32) -> Result<u32, WantOfMemory>
-    ensures { IfOk result (λ n. n ≡ a + b) }
-{
-    a.checked_add(b).ok_or(WantOfMemory)
 }
 
 /// The variable with a number.

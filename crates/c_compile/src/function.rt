@@ -1,15 +1,15 @@
 //! The code of a function.
 
-ghost use Rattle.std.specs.Prelude.{◌≡◌, IfOk, OnOk, IsTrue};
+ghost use Rattle.std.specs.Prelude.{◌≡◌, ◌^◌, ◌<◌, IfOk, OnOk, IsTrue};
 ghost use Rattle.c_tree.specs.Checks.{is_name};
 ghost use Rattle.stack_code.specs.Blocks.{function_of, is_kept};
-ghost use Rattle.c_tree.specs.Storage.{words_of, words_of_global};
+ghost use Rattle.c_tree.specs.Expr.{slots_of};
+ghost use Rattle.c_tree.specs.Storage.{words_of, words_of_global, words_of_slot};
 ghost use Rattle.c_compile.specs.Variables.{globals_from};
 ghost use Rattle.c_compile.specs.StmtCode as spec;
 ghost use Rattle.c_compile.specs.Emitted.{after, shape_of, body_of_stmt, inside_of_stmt};
 ghost use Rattle.c_compile.specs.Body.{steps_of, blocks_of, IsLaidOut};
 
-use crate::access::sum_of;
 use crate::body::{Body, count_of};
 use crate::ends::stmt_end;
 use crate::exits::Exits;
@@ -31,15 +31,16 @@ pub fn emit_function(
     function: &Function,
 ) -> Result<CodeFunction, WantOfMemory>
     requires name { IsTrue (is_name function.now.name) }
+    requires frame { words_of words_of_slot (slots_of function.now) < 2 ^ 32 }
     requires globals { globals.now ≡ globals_from 0 program.now.globals }
     requires words { global_words ≡ words_of words_of_global program.now.globals }
     ensures code { IfOk result (λ f. function_of f ≡ spec.function_code program.now.globals program.now.functions program.now.texts function.now) }
     ensures kept { IfOk result (λ f. IsTrue (is_kept f)) }
 {
     let slots = slot_variables(alloc, function)?;
-    let param_words = words_of_slots(function.params.as_slice())?;
-    let local_words = words_of_slots(function.locals.as_slice())?;
-    let frame_words = sum_of(param_words, local_words)?;
+    let param_words = words_of_slots(function.params.as_slice());
+    let local_words = words_of_slots(function.locals.as_slice());
+    let frame_words = param_words + local_words;
     let scope = Scope {
         alloc,
         program,

@@ -22,8 +22,8 @@ use std::alloc::Global;
 /// and after every number of events, the run of the code stops with the status and in the state that
 /// the meaning of the program has. It has the program's functions, variables and blocks.
 ///
-/// `WantOfMemory` also answers a function or a list of blocks with more than 4,294,967,295 items,
-/// which no text of 262,144 bytes makes.
+/// `WantOfMemory` also answers a function with more than 4,294,967,295 instructions or blocks, which
+/// no text of 262,144 bytes has.
 pub fn compile(alloc: Global, p: &Program) -> Result<Code, WantOfMemory>
     ensures code { IfOk result (λ code. code_of code ≡ program_code p.now.globals p.now.functions p.now.texts p.now.main) }
     ensures stands { IfOk result (λ code. (count me : ℕ) → StandsFor (setting_of p.now count me) (code_of code)) }
@@ -47,7 +47,7 @@ fn emit_functions(
     ensures code { IfOk result (λ functions. map function_of functions.items ≡ map (function_code p.now.globals p.now.functions p.now.texts) p.now.functions) }
     ensures kept { IfOk result (λ functions. IsTrue (list_all is_kept functions.items)) }
 {
-    let global_words = words_of_globals(p.globals.as_slice())?;
+    let global_words = words_of_globals(p.globals.as_slice());
     let mut functions = Vec::new(alloc);
     for function in p.functions.as_slice() {
         let code = emit_function(alloc, p, variables, global_words, function)?;

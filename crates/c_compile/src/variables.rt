@@ -1,13 +1,13 @@
 //! The variables of a program, as code keeps them.
 
-ghost use Rattle.std.specs.Prelude.{◌≡◌, ◌+◌, ◌++◌, OnOk, IfOk, IsTrue, replicate, string_bytes};
+ghost use Rattle.std.specs.Prelude.{◌≡◌, ◌+◌, ◌^◌, ◌<◌, ◌++◌, OnOk, IfOk, IsTrue, replicate, string_bytes};
 ghost use Rattle.c_tree.specs.Checks.{is_name};
 ghost use Rattle.c_tree.specs.Expr.{slots_of};
 ghost use Rattle.c_tree.specs.Storage as storage;
 ghost use Rattle.c_tree.specs.Storage.{words_of, words_of_global, words_of_slot};
 ghost use Rattle.c_compile.specs.Variables.{globals_from, slots_from};
 
-use crate::access::{global_words, slot_words, sum_of};
+use crate::access::{global_words, slot_words};
 use crate::body::add;
 use c_tree::{Function, Global, Slot};
 use nm_base::{Bytes, List, WantOfMemory};
@@ -16,6 +16,7 @@ use std::alloc::Global as Memory;
 
 /// The globals, each by the place of its first word.
 pub fn global_variables(alloc: Memory, globals: &[Global]) -> Result<Vec<Variable>, WantOfMemory>
+    requires { words_of words_of_global globals.now < 2 ^ 32 }
     ensures { IfOk result (λ variables. variables.items ≡ globals_from 0 globals.now) }
 {
     let mut variables = Vec::new(alloc);
@@ -30,13 +31,14 @@ pub fn global_variables(alloc: Memory, globals: &[Global]) -> Result<Vec<Variabl
             place,
         };
         add(&mut variables, variable)?;
-        place = sum_of(place, global_words(global))?;
+        place += global_words(global);
     }
     Ok(variables)
 }
 
 /// The parameters and then the locals of a function, each by the place of its first word in the frame.
 pub fn slot_variables(alloc: Memory, function: &Function) -> Result<Vec<Variable>, WantOfMemory>
+    requires { words_of words_of_slot (slots_of function.now) < 2 ^ 32 }
     ensures { IfOk result (λ variables. variables.items ≡ slots_from 0 (slots_of function.now)) }
 {
     let mut variables = Vec::new(alloc);
@@ -52,6 +54,7 @@ fn add_slots(
     slots: &[Slot],
     place: u32,
 ) -> Result<u32, WantOfMemory>
+    requires { place + words_of words_of_slot slots.now < 2 ^ 32 }
     ensures end { IfOk result (λ end. end ≡ place + words_of words_of_slot slots.now) }
     ensures added { OnOk result (variables.new.items ≡ variables.old.items ++ slots_from place slots.now) }
 {
@@ -66,31 +69,33 @@ fn add_slots(
             place: end,
         };
         add(variables, variable)?;
-        end = sum_of(end, slot_words(slot))?;
+        end += slot_words(slot);
     }
     Ok(end)
 }
 
 /// The words of slots.
-pub fn words_of_slots(slots: &[Slot]) -> Result<u32, WantOfMemory>
-    ensures { IfOk result (λ words. words ≡ words_of words_of_slot slots.now) }
+pub fn words_of_slots(slots: &[Slot]) -> u32
+    requires { words_of words_of_slot slots.now < 2 ^ 32 }
+    ensures { result ≡ words_of words_of_slot slots.now }
 {
     let mut words: u32 = 0;
     for slot in slots {
-        words = sum_of(words, slot_words(slot))?;
+        words += slot_words(slot);
     }
-    Ok(words)
+    words
 }
 
 /// The words of all globals.
-pub fn words_of_globals(globals: &[Global]) -> Result<u32, WantOfMemory>
-    ensures { IfOk result (λ words. words ≡ words_of words_of_global globals.now) }
+pub fn words_of_globals(globals: &[Global]) -> u32
+    requires { words_of words_of_global globals.now < 2 ^ 32 }
+    ensures { result ≡ words_of words_of_global globals.now }
 {
     let mut words: u32 = 0;
     for global in globals {
-        words = sum_of(words, global_words(global))?;
+        words += global_words(global);
     }
-    Ok(words)
+    words
 }
 
 /// The words of the globals at the start.

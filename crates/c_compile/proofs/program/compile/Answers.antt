@@ -1,12 +1,17 @@
-use Rattle.std.proofs.Common.{ap, ◌∙◌}
-use Rattle.c_tree.specs.Storage.{first_words}
+use Rattle.std.proofs.Common.{ap, ◌∙◌, arith}
+use Rattle.c_tree.specs.Storage.{first_words, words_of, words_of_global}
 use Rattle.c_compile.specs.Variables.{globals_from}
 use Rattle.stack_code.specs.Blocks.{view_of}
 use Rattle.stack_code.specs.View.{code_of}
 use Rattle.c_compile.proofs.ProgramStacks.{sound_by, within_by}
-use Rattle.c_compile.proofs.Compiled.{view_is, stands_by}
+use Rattle.c_compile.proofs.Compiled.{globals_fit, view_is, stands_by}
 use Rattle.c_compile.proofs.Names.{tells_names}
 use Rattle.c_compile.proofs.program.compile.Goals as goal
+
+pub global_variables-requires : goal.global_variables-requires
+global_variables-requires c =
+    let p = c.args.p.now in
+    omega (arith, ap (words_of words_of_global) c.as_slice.ensures, globals_fit p.globals p.functions p.texts p.main p.checked)
 
 pub new-code-requires-clause-sound : goal.new-code-requires-clause-sound
 new-code-requires-clause-sound c =

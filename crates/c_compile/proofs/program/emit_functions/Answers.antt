@@ -1,8 +1,9 @@
 use Rattle.std.proofs.Common.{◌≡◌, ◌++◌, ◌<◌, ap, sym, ◌∙◌, subst, map, length, get_or, arith}
 use Rattle.std.specs.List.{list_all}
+use Rattle.c_tree.specs.Storage.{words_of, words_of_global}
 use Rattle.stack_code.specs.Blocks.{function_of, is_kept}
 use Rattle.c_compile.specs.StmtCode.{function_code}
-use Rattle.c_compile.proofs.Compiled.{function_named, functions_more, functions_end, kept_more}
+use Rattle.c_compile.proofs.Compiled.{function_named, frame_fits, globals_fit, functions_more, functions_end, kept_more}
 use Rattle.c_compile.proofs.program.emit_functions.Goals as goal
 
 pub loop-function-init : goal.loop-function-init
@@ -18,6 +19,19 @@ emit_function-requires-clause-name c =
     let f = c.function-item.result in
     let lt : i < length p.functions = subst (λ l. i < length l) c.as_slice-function-items.ensures c.loop-function-test.true in
     function_named p.globals p.functions p.texts p.main i f p.checked lt (c.function-item.is ∙ ap (λ l. get_or l i f) c.as_slice-function-items.ensures)
+
+pub emit_function-requires-clause-frame : goal.emit_function-requires-clause-frame
+emit_function-requires-clause-frame c =
+    let p = c.args.p.now in
+    let i = c.loop-function.function-index in
+    let f = c.function-item.result in
+    let lt : i < length p.functions = subst (λ l. i < length l) c.as_slice-function-items.ensures c.loop-function-test.true in
+    frame_fits p.globals p.functions p.texts p.main i f p.checked lt (c.function-item.is ∙ ap (λ l. get_or l i f) c.as_slice-function-items.ensures)
+
+pub words_of_globals-global_words-requires : goal.words_of_globals-global_words-requires
+words_of_globals-global_words-requires c =
+    let p = c.args.p.now in
+    omega (arith, ap (words_of words_of_global) c.as_slice.ensures, globals_fit p.globals p.functions p.texts p.main p.checked)
 
 pub loop-function-preserved : goal.loop-function-preserved
 loop-function-preserved c =

@@ -1,8 +1,18 @@
-use Rattle.std.proofs.Common.{◌+◌, ◌++◌, ap, ◌∙◌}
+use Rattle.std.proofs.Common.{◌+◌, ◌++◌, ap, ◌∙◌, arith}
 use Rattle.c_tree.specs.Storage.{words_of, words_of_slot}
 use Rattle.c_compile.specs.Variables.{slots_from}
-use Rattle.c_compile.proofs.Making.{all_slots}
+use Rattle.c_compile.proofs.Making.{all_slots, words_both}
 use Rattle.c_compile.proofs.variables.slot_variables.Goals as goal
+
+pub add_slots-requires : goal.add_slots-requires
+add_slots-requires c =
+    let f = c.args.function.now in
+    omega (arith, words_both f.params f.locals, ap (words_of words_of_slot) c.as_slice.ensures, c.requires)
+
+pub add_slots-requires-2 : goal.add_slots-requires-2
+add_slots-requires-2 c =
+    let f = c.args.function.now in
+    omega (arith, words_both f.params f.locals, c.in_ok-params.ensures.end, ap (words_of words_of_slot) c.as_slice.ensures, ap (words_of words_of_slot) c.as_slice-2.ensures, c.requires)
 
 pub returns : goal.returns
 returns c =
