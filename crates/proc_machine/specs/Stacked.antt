@@ -1,0 +1,15 @@
+-- Operands of calls that stand one on the other.
+use Rattle.std.specs.Prelude.{ℕ, ◌-◌, List, length, take, drop}
+
+-- the operands above the lowest so many, the topmost first, and those lowest ones
+abbrev pub upper : ℕ → List ℕ → List ℕ
+upper below operands = take (length operands - below) operands
+
+abbrev pub lower : ℕ → List ℕ → List ℕ
+lower below operands = drop (length operands - below) operands
+
+-- the operands of the function that runs and those of its callers, the topmost first, and how many there may be
+pub record OperandStack : Type 0 where
+  pub own : List ℕ
+  pub outer : List ℕ
+  pub limit : ℕ
