@@ -4,4 +4,5 @@
 
 mod callers;
 mod operands;
+mod printing;
 mod words;

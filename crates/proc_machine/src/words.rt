@@ -19,7 +19,7 @@ pub(crate) struct Words {
 }
 
 /// The word of that number, and 0 past the last.
-fn word_or_zero(words: &[u64], i: usize) -> u32
+pub(crate) fn word_or_zero(words: &[u64], i: usize) -> u32
     requires { AllWithin (λ x. x < 2 ^ 32) words.now 0 (length words.now) }
     ensures { result ≡ slice_index words.now i }
 {
