@@ -1,1 +1,4 @@
+pub mod Pauses
+pub mod Ready
 pub mod Stacked
+pub mod View

@@ -1,6 +1,6 @@
 //! The calls that haven't returned.
 
-ghost use Rattle.std.specs.Prelude.{◌≡◌, ℕ, ◌<◌, ◌≤◌, [], ◌∷◌, length, slice_get, Some, IfOk, MatchOption};
+ghost use Rattle.std.specs.Prelude.{◌≡◌, ℕ, ◌+◌, ◌^◌, ◌<◌, ◌≤◌, [], ◌∷◌, length, slice_get, Some, IfOk, MatchOption};
 
 use nm_base::WantOfMemory;
 use std::alloc::Global;
@@ -26,6 +26,7 @@ pub(crate) struct Frame {
 pub(crate) struct Caller {
     pub frame: Frame,
     pub below: usize,
+    ghost onward: { frame.place + 1 < 2 ^ 32 },
 }
 
 /// The callers, each called by the next, with memory for all that there may be.

@@ -3,6 +3,12 @@
 #![tactic(auto)]
 
 mod callers;
+mod execution;
 mod operands;
+mod pause;
 mod printing;
+mod scratch;
+mod step;
 mod words;
+
+pub use pause::Pause;

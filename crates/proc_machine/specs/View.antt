@@ -1,0 +1,63 @@
+-- What the definitions of the machine see of an execution.
+use Rattle.std.specs.Prelude.{◌≡◌, ℕ, ◌+◌, ◌-◌, List, [], ◌∷◌, map, length, drop, Option, Some, None, option_map, Result, Ok, Err}
+use Rattle.nm_base.specs.declared.kind.Kind.{Kind}
+use Rattle.nm_base.specs.declared.kind.FaultCause.{FaultCause}
+use Rattle.nm_base.specs.Message.{message_of}
+use Rattle.c_tree.specs.State.{State, Done, Stopped, Run}
+use Rattle.c_tree.specs.State as state
+use Rattle.stack_code.specs.Machine.{Caller, Control}
+use Rattle.proc_machine.specs.declared.callers.Frame.{Frame as KeptFrame}
+use Rattle.proc_machine.specs.declared.callers.Caller.{Caller as KeptCaller}
+use Rattle.proc_machine.specs.declared.execution.Execution.{Execution}
+use Rattle.proc_machine.specs.declared.pause.Pause.{Pause}
+use Rattle.proc_machine.specs.Stacked.{OperandStack, upper, lower}
+use Rattle.proc_machine.specs.Pauses.{status_of, pause_by}
+
+-- the callers, whose operands stand one on the other
+abbrev pub callers_of : List KeptCaller → List ℕ → List Caller
+callers_of [] operands = []
+callers_of (k ∷ ks) operands = record { function = k.frame.function; pc = k.frame.place; stack = upper k.below operands } ∷ callers_of ks (lower k.below operands)
+
+abbrev pub control_of : Execution → Control
+control_of e = record { function = e.frame.function; pc = e.frame.place; stack = e.operands.own; callers = callers_of e.callers e.operands.outer }
+
+abbrev pub frame_in : KeptFrame → state.Frame
+frame_in f = record { function = f.function; line = f.line; base = f.base; entered = [] }
+
+abbrev pub frames_in : List KeptCaller → List state.Frame
+frames_in [] = []
+frames_in (k ∷ ks) = frame_in k.frame ∷ frames_in ks
+
+-- its data, where these events were made, the last one first, and so many more may be
+abbrev pub data_with : Execution → List Kind → ℕ → State
+data_with e events left = record {
+  words = e.words;
+  frames = frame_in e.frame ∷ frames_in e.callers;
+  letter = option_map message_of e.letter;
+  output = e.output.items;
+  inputs = [];
+  events = events;
+  left = left;
+  sent = e.sent;
+}
+
+-- one step: it goes on, or stands before an event
+pub record Pauses (run : Run Control) (e : Execution) (next : Pause) : Type 0 where
+  -- with no events left it stops there
+  pub stops : (events : List Kind) → run (data_with e events 0) ≡ Stopped (status_of next) (data_with e events 0)
+  pub next_is : pause_by (run (data_with e [] 1)) ≡ Some next
+
+abbrev pub Moves : (Control → Run Control) → Execution → Execution → Option Pause → Type 0
+Moves run old new None = (events : List Kind) → run (control_of old) (data_with old events 0) ≡ Done (control_of new) (data_with new events 0)
+Moves run old new (Some next) = (new ≡ old) × Pauses (run (control_of old)) old next
+
+-- ---- changes
+
+-- the next instruction, with these operands
+abbrev pub onward : Execution → List ℕ → Execution
+onward e own = record e { frame = record e.frame { place = e.frame.place + 1 }; operands = record e.operands { own = own } }
+
+-- a value takes the place of so many operands, or a fault leaves all as it is
+abbrev pub given : ℕ → Result ℕ FaultCause → Execution → Execution
+given taken (Ok v) e = onward e (v ∷ drop taken e.operands.own)
+given taken (Err cause) e = e
