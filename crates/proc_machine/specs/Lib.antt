@@ -1,3 +1,4 @@
+pub mod Callers
 pub mod Pauses
 pub mod Ready
 pub mod Stacked

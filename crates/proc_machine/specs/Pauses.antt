@@ -1,9 +1,10 @@
 -- What comes next.
-use Rattle.std.specs.Prelude.{◌≡◌, ℕ, List, [], ◌∷◌, Option, Some, None, Result, Ok, Err, ◌+◌, nat_lt, if◌then◌else◌}
+use Rattle.std.specs.Prelude.{◌≡◌, ℕ, List, [], ◌∷◌, Option, Some, None, Result, Ok, Err, ◌+◌, nat_lt, length, slice_index, if◌then◌else◌}
 use Rattle.nm_base.specs.declared.kind.Kind.{Kind}
 use Rattle.nm_base.specs.declared.kind.Kind.TheVariants as kind
 use Rattle.nm_base.specs.declared.kind.FaultCause.{FaultCause}
-use Rattle.nm_base.specs.declared.kind.FaultCause.TheVariants.{Index}
+use Rattle.nm_base.specs.declared.kind.FaultCause.TheVariants.{Index, NoLetter}
+use Rattle.nm_base.specs.Message.{Message}
 use Rattle.c_tree.specs.State.{State, Status, Able, Wants, Over, Outcome, Done, Stopped, Run}
 use Rattle.stack_code.specs.Machine.{Control}
 use Rattle.proc_machine.specs.declared.pause.Pause.{Pause}
@@ -42,3 +43,7 @@ fault_of (Err cause) = Some (pause.Fault cause)
 -- the place of an element, where the subscript is within
 abbrev pub element_of : ℕ → ℕ → ℕ → Result ℕ FaultCause
 element_of place len i = if nat_lt i len then Ok (place + i) else Err Index
+
+-- a word of a letter, where there is one
+abbrev pub word_in : Message → ℕ → Result ℕ FaultCause
+word_in m i = if nat_lt i (length m.words) then Ok (slice_index m.words i) else Err NoLetter

@@ -1,10 +1,11 @@
 -- What the definitions of the machine see of an execution.
-use Rattle.std.specs.Prelude.{◌≡◌, ℕ, ◌+◌, ◌-◌, List, [], ◌∷◌, map, length, drop, Option, Some, None, option_map, Result, Ok, Err}
+use Rattle.std.specs.Prelude.{◌≡◌, ℕ, ◌+◌, ◌-◌, List, [], ◌∷◌, ◌++◌, length, take, drop, reverse, replicate, Option, Some, None, option_map, Result, Ok, Err}
 use Rattle.nm_base.specs.declared.kind.Kind.{Kind}
 use Rattle.nm_base.specs.declared.kind.FaultCause.{FaultCause}
 use Rattle.nm_base.specs.Message.{message_of}
 use Rattle.c_tree.specs.State.{State, Done, Stopped, Run}
 use Rattle.c_tree.specs.State as state
+use Rattle.stack_code.specs.declared.code.FunctionFrame.{FunctionFrame}
 use Rattle.stack_code.specs.Machine.{Caller, Control}
 use Rattle.proc_machine.specs.declared.callers.Frame.{Frame as KeptFrame}
 use Rattle.proc_machine.specs.declared.callers.Caller.{Caller as KeptCaller}
@@ -61,3 +62,20 @@ onward e own = record e { frame = record e.frame { place = e.frame.place + 1 }; 
 abbrev pub given : ℕ → Result ℕ FaultCause → Execution → Execution
 given taken (Ok v) e = onward e (v ∷ drop taken e.operands.own)
 given taken (Err cause) e = e
+
+-- a call's frame is made: the operands for its parameters are its first words
+abbrev pub opened : ℕ → FunctionFrame → Execution → Execution
+opened number f e = record e {
+  frame = record { function = number; place = 0; line = f.line; base = length e.words };
+  callers = record { frame = e.frame; below = length e.operands.outer } ∷ e.callers;
+  operands = record e.operands { own = []; outer = drop f.param_words e.operands.own ++ e.operands.outer };
+  words = e.words ++ take f.frame_words (reverse (take f.param_words e.operands.own) ++ replicate f.frame_words 0);
+}
+
+-- the innermost frame goes, and its caller goes on with the value
+abbrev pub closed : KeptCaller → ℕ → Execution → Execution
+closed k v e = record e {
+  frame = record k.frame { place = k.frame.place + 1 };
+  operands = record e.operands { own = v ∷ upper k.below e.operands.outer; outer = lower k.below e.operands.outer };
+  words = take e.frame.base e.words;
+}

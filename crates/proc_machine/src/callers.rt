@@ -1,6 +1,6 @@
 //! The calls that haven't returned.
 
-ghost use Rattle.std.specs.Prelude.{◌≡◌, ℕ, ◌+◌, ◌^◌, ◌<◌, ◌≤◌, [], ◌∷◌, length, slice_get, Some, IfOk, MatchOption};
+ghost use Rattle.std.specs.Prelude.{◌≡◌, ℕ, ◌+◌, ◌^◌, ◌<◌, ◌≤◌, [], ◌∷◌, length, slice_get, Some, IfOk, IfSome, MatchOption};
 
 use nm_base::WantOfMemory;
 use std::alloc::Global;
@@ -26,7 +26,6 @@ pub(crate) struct Frame {
 pub(crate) struct Caller {
     pub frame: Frame,
     pub below: usize,
-    ghost onward: { frame.place + 1 < 2 ^ 32 },
 }
 
 /// The callers, each called by the next, with memory for all that there may be.
@@ -36,7 +35,9 @@ pub(crate) struct Callers {
 }
 
 impl Model for Callers {
-    ghost use Rattle.std.specs.Prelude.{◌≤◌, List, reverse};
+    ghost use Rattle.std.specs.Prelude.{◌≤◌, List, reverse, IsTrue};
+    ghost use Rattle.std.specs.List.{list_all};
+    ghost use Rattle.proc_machine.specs.Callers.{goes_on};
     ghost use Rattle.std.specs.Vec.{vec_len, vec_capacity};
     ghost use Rattle.proc_machine.specs.declared.callers.Caller.{Caller as OneCaller};
 
@@ -44,7 +45,7 @@ impl Model for Callers {
 
     ghost view = { λ c. reverse c.items.items };
 
-    ghost invariant = { λ c. (vec_len c.items ≤ 255) × (255 ≤ vec_capacity c.items) };
+    ghost invariant = { λ c. (vec_len c.items ≤ 255) × (255 ≤ vec_capacity c.items) × IsTrue (list_all goes_on c.items.items) };
 }
 
 impl Callers {
@@ -71,7 +72,8 @@ impl Callers {
     }
 
     pub(crate) fn push(&mut self, caller: Caller)
-        requires { length self.old < 255 }
+        requires room { length self.old < 255 }
+        requires onward { caller.frame.place + 1 < 2 ^ 32 }
         ensures { self.new ≡ caller ∷ self.old }
     {
         self.items.push_reserved(caller);
@@ -79,7 +81,8 @@ impl Callers {
 
     /// Takes the innermost off, if there is one.
     pub(crate) fn pop(&mut self) -> Option<Caller>
-        ensures { MatchOption result ((self.old ≡ []) × (self.new ≡ [])) (λ c. self.old ≡ c ∷ self.new) }
+        ensures taken { MatchOption result ((self.old ≡ []) × (self.new ≡ [])) (λ c. self.old ≡ c ∷ self.new) }
+        ensures onward { IfSome result (λ c. c.frame.place + 1 < 2 ^ 32) }
     {
         self.items.pop()
     }

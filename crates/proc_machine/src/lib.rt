@@ -3,6 +3,7 @@
 #![tactic(auto)]
 
 mod callers;
+mod calls;
 mod execution;
 mod operands;
 mod pause;

@@ -15,7 +15,7 @@ use stack_code::Instr;
 
 impl Execution {
     /// A value takes the place of the topmost operands, or a fault leaves all as it is.
-    fn give(&mut self, taken: usize, value: Result<u64, FaultCause>) -> Option<Pause>
+    pub(crate) fn give(&mut self, taken: usize, value: Result<u64, FaultCause>) -> Option<Pause>
         requires some { taken ≤ length self.old.operands.own }
         requires room { length self.old.operands.own - taken + 1 + length self.old.operands.outer ≤ self.old.operands.limit }
         requires further { self.old.frame.place + 1 < 2 ^ 32 }
@@ -121,7 +121,8 @@ impl Execution {
         requires { IsReady (code_of at.code.now) (instr.GlobalAt base len) self.old }
         ensures { Moves (act (code_of at.entry.code.now) at.entry.count at.entry.me.no (instr.GlobalAt base len)) self.old self.new result }
     {
-        self.give(1, element(u64::from(base), len, self.operands.top(0)))
+        let i = self.operands.top(0);
+        self.give(1, element(u64::from(base), len, i))
     }
 
     /// LocalAt.
@@ -129,7 +130,9 @@ impl Execution {
         requires { IsReady (code_of at.code.now) (instr.LocalAt base len) self.old }
         ensures { Moves (act (code_of at.entry.code.now) at.entry.count at.entry.me.no (instr.LocalAt base len)) self.old self.new result }
     {
-        self.give(1, element(self.place_of(base), len, self.operands.top(0)))
+        let i = self.operands.top(0);
+        let place = self.place_of(base);
+        self.give(1, element(place, len, i))
     }
 
     /// ParamAt.
@@ -139,7 +142,8 @@ impl Execution {
     {
         let place = self.words.get(self.place_of(slot));
         let len = self.words.get(self.place_of(slot) + 1);
-        self.give(1, element(u64::from(place), len, self.operands.top(0)))
+        let i = self.operands.top(0);
+        self.give(1, element(u64::from(place), len, i))
     }
 
     /// GlobalArray.
@@ -156,7 +160,8 @@ impl Execution {
         requires { IsReady (code_of at.code.now) (instr.LocalArray base len) self.old }
         ensures { Moves (act (code_of at.entry.code.now) at.entry.count at.entry.me.no (instr.LocalArray base len)) self.old self.new result }
     {
-        self.operands.push(self.place_of(base));
+        let place = self.place_of(base);
+        self.operands.push(place);
         self.give(0, Ok(u64::from(len)))
     }
 
@@ -210,7 +215,8 @@ impl Execution {
         requires { IsReady (code_of at.code.now) (instr.Zero base len) self.old }
         ensures { Moves (act (code_of at.entry.code.now) at.entry.count at.entry.me.no (instr.Zero base len)) self.old self.new result }
     {
-        self.words.clear(self.place_of(base), len);
+        let place = self.place_of(base);
+        self.words.clear(place, len);
         self.frame.place += 1;
         None
     }

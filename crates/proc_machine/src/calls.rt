@@ -1,0 +1,186 @@
+//! Instructions on calls, letters and output.
+
+ghost use Rattle.std.specs.Prelude.{◌≡◌, ℕ, ◌+◌, ◌-◌, ◌<◌, ◌≤◌, ◌^◌, ◌∷◌, length, drop, slice_index, Some, None};
+ghost use Rattle.stack_code.specs.declared.instr.Instr.TheVariants as instr;
+ghost use Rattle.stack_code.specs.Machine.{act};
+ghost use Rattle.stack_code.specs.View.{code_of};
+ghost use Rattle.proc_machine.specs.Ready.{IsReady};
+ghost use Rattle.proc_machine.specs.View.{Moves, opened, closed};
+ghost use Rattle.proc_machine.specs.Pauses.{word_in};
+ghost use Rattle.nm_base.specs.Message.{message_of};
+
+use crate::callers::{Caller, Frame};
+use crate::execution::{Execution, Setting};
+use crate::pause::Pause;
+use crate::words::WORDS_LIMIT;
+use nm_base::{FaultCause, Letter, as_int};
+use stack_code::FunctionFrame;
+
+impl Execution {
+    /// Line.
+    pub(crate) fn at_line(&mut self, at: Setting<'_>, line: u32) -> Option<Pause>
+        requires { IsReady (code_of at.code.now) (instr.Line line) self.old }
+        ensures { Moves (act (code_of at.entry.code.now) at.entry.count at.entry.me.no (instr.Line line)) self.old self.new result }
+    {
+        Some(Pause::Line { line })
+    }
+
+    /// Call.
+    pub(crate) fn call(&mut self, at: Setting<'_>, function: u32) -> Option<Pause>
+        requires { IsReady (code_of at.code.now) (instr.Call function) self.old }
+        ensures { Moves (act (code_of at.entry.code.now) at.entry.count at.entry.me.no (instr.Call function)) self.old self.new result }
+    {
+        let frame = at.code.frame(function);
+        if self.callers.len() + 1 >= 256 {
+            return Some(Pause::Fault {
+                cause: FaultCause::DepthFull,
+            });
+        }
+        if self.words.len() + frame.frame_words as usize > WORDS_LIMIT {
+            return Some(Pause::Fault {
+                cause: FaultCause::DataFull,
+            });
+        }
+        self.open_frame(function, frame);
+        None
+    }
+
+    /// Makes the frame of a call, where there is room for it.
+    fn open_frame(&mut self, function: u32, frame: FunctionFrame)
+        requires few { frame.param_words ≤ length self.old.operands.own }
+        requires words { (j : ℕ) → j < frame.param_words → slice_index self.old.operands.own j < 2 ^ 32 }
+        requires depth { length self.old.callers < 255 }
+        requires room { length self.old.words + frame.frame_words ≤ 65536 }
+        requires further { self.old.frame.place + 1 < 2 ^ 32 }
+        ensures { self.new ≡ opened function frame self.old }
+    {
+        let base = self.words.len() as u32;
+        let params = frame.param_words as usize;
+        self.words
+            .open(self.operands.last(params), frame.frame_words);
+        self.operands.discard(params);
+        let below = self.operands.enter();
+        self.callers.push(Caller {
+            frame: self.frame,
+            below,
+        });
+        self.frame = Frame {
+            function,
+            place: 0,
+            line: frame.line,
+            base,
+        };
+    }
+
+    /// Return.
+    pub(crate) fn give_back(&mut self, at: Setting<'_>) -> Option<Pause>
+        requires { IsReady (code_of at.code.now) instr.Return self.old }
+        ensures { Moves (act (code_of at.entry.code.now) at.entry.count at.entry.me.no instr.Return) self.old self.new result }
+    {
+        let value = self.operands.top(0);
+        match self.callers.pop() {
+            None => Some(Pause::End {
+                value: as_int(value as u32),
+            }),
+            Some(caller) => {
+                self.close_frame(caller, value);
+                None
+            }
+        }
+    }
+
+    /// The innermost call gives its caller a value.
+    fn close_frame(&mut self, caller: Caller, value: u64)
+        requires room { length self.old.operands.outer < self.old.operands.limit }
+        requires onward { caller.frame.place + 1 < 2 ^ 32 }
+        ensures { self.new ≡ closed caller value self.old }
+    {
+        self.operands.leave(caller.below);
+        self.operands.push(value);
+        self.words.close(self.frame.base);
+        self.frame = caller.frame;
+        self.frame.place += 1;
+    }
+
+    /// Receive.
+    pub(crate) fn receive(&mut self, at: Setting<'_>) -> Option<Pause>
+        requires { IsReady (code_of at.code.now) instr.Receive self.old }
+        ensures { Moves (act (code_of at.entry.code.now) at.entry.count at.entry.me.no instr.Receive) self.old self.new result }
+    {
+        let set = self.operands.top(0) as u32;
+        if set == 0 {
+            Some(Pause::Fault {
+                cause: FaultCause::EmptySet,
+            })
+        } else {
+            Some(Pause::Receive { set })
+        }
+    }
+
+    /// Word.
+    pub(crate) fn letter_word(&mut self, at: Setting<'_>) -> Option<Pause>
+        requires { IsReady (code_of at.code.now) instr.Word self.old }
+        ensures { Moves (act (code_of at.entry.code.now) at.entry.count at.entry.me.no instr.Word) self.old self.new result }
+    {
+        let i = self.operands.top(0);
+        let value = match &self.letter {
+            None => Err(FaultCause::NoLetter),
+            Some(letter) => letter_word(letter, i),
+        };
+        self.give(1, value)
+    }
+
+    /// Words.
+    pub(crate) fn letter_words(&mut self, at: Setting<'_>) -> Option<Pause>
+        requires { IsReady (code_of at.code.now) instr.Words self.old }
+        ensures { Moves (act (code_of at.entry.code.now) at.entry.count at.entry.me.no instr.Words) self.old self.new result }
+    {
+        let value = match &self.letter {
+            None => Err(FaultCause::NoLetter),
+            Some(letter) => Ok(letter_length(letter)),
+        };
+        self.give(0, value)
+    }
+
+    /// From.
+    pub(crate) fn letter_from(&mut self, at: Setting<'_>) -> Option<Pause>
+        requires { IsReady (code_of at.code.now) instr.From self.old }
+        ensures { Moves (act (code_of at.entry.code.now) at.entry.count at.entry.me.no instr.From) self.old self.new result }
+    {
+        let value = match &self.letter {
+            None => Err(FaultCause::NoLetter),
+            Some(letter) => Ok(u64::from(letter.id.sender.no)),
+        };
+        self.give(0, value)
+    }
+
+    /// Via.
+    pub(crate) fn letter_via(&mut self, at: Setting<'_>) -> Option<Pause>
+        requires { IsReady (code_of at.code.now) instr.Via self.old }
+        ensures { Moves (act (code_of at.entry.code.now) at.entry.count at.entry.me.no instr.Via) self.old self.new result }
+    {
+        let value = match &self.letter {
+            None => Err(FaultCause::NoLetter),
+            Some(letter) => Ok(u64::from(letter.chan)),
+        };
+        self.give(0, value)
+    }
+}
+
+/// How many words a letter has.
+fn letter_length(letter: &Letter) -> u64
+    ensures { result ≡ length (message_of letter.now).words }
+{
+    u64::from(letter.len).min(8)
+}
+
+/// A word of a letter, where there is one.
+fn letter_word(letter: &Letter, i: u64) -> Result<u64, FaultCause>
+    ensures { result ≡ word_in (message_of letter.now) i }
+{
+    if i < letter_length(letter) {
+        Ok(u64::from(letter.words[i as usize]))
+    } else {
+        Err(FaultCause::NoLetter)
+    }
+}
