@@ -1,3 +1,5 @@
 pub mod Upper
 pub mod Prints
 pub mod Calling
+pub mod Counts
+pub mod Sending

@@ -24,7 +24,7 @@ more_digits k j b n e h =
 
 -- ---- formats
 
-drop_one : (xs : List ℕ) (i : ℕ) → i < length xs → drop i xs ≡ get_or xs i 0 ∷ drop (i + 1) xs
+pub drop_one : (xs : List ℕ) (i : ℕ) → i < length xs → drop i xs ≡ get_or xs i 0 ∷ drop (i + 1) xs
 drop_one [] i h = absurd (omega (arith, h))
 drop_one (y ∷ xs) zero h = refl
 drop_one (y ∷ xs) (suc i) h = drop_one xs i (omega (arith, h)) ∙ ap (λ k. get_or xs i 0 ∷ drop k (y ∷ xs)) (let s : suc (i + 1) ≡ suc i + 1 = omega arith in s)

@@ -102,21 +102,6 @@ impl Execution {
         self.frame.place += 1;
     }
 
-    /// Receive.
-    pub(crate) fn receive(&mut self, at: Setting<'_>) -> Option<Pause>
-        requires { IsReady (code_of at.code.now) instr.Receive self.old }
-        ensures { Moves (act (code_of at.entry.code.now) at.entry.count at.entry.me.no instr.Receive) self.old self.new result }
-    {
-        let set = self.operands.top(0) as u32;
-        if set == 0 {
-            Some(Pause::Fault {
-                cause: FaultCause::EmptySet,
-            })
-        } else {
-            Some(Pause::Receive { set })
-        }
-    }
-
     /// Word.
     pub(crate) fn letter_word(&mut self, at: Setting<'_>) -> Option<Pause>
         requires { IsReady (code_of at.code.now) instr.Word self.old }

@@ -5,6 +5,7 @@
 mod callers;
 mod calls;
 mod execution;
+mod messages;
 mod operands;
 mod pause;
 mod printing;

@@ -1,0 +1,142 @@
+-- Sends, receives and prints stand before their events, or before a fault.
+use Rattle.std.proofs.Common.{◌≡◌, ℕ, zero, suc, ◌+◌, ◌-◌, ◌<◌, ◌≤◌, Bool, true, false, List, [], ◌∷◌, ◌++◌, length, take, drop, reverse, replicate, Option, Some, None, refl, sym, ap, ◌∙◌, subst, arith, rules, tests, append_assoc}
+use Rattle.std.proofs.lemmas.Bool.{ltb-true, leb-true}
+use Rattle.std.specs.Prelude.{IsTrue, nat_lt, nat_le, ◌&&◌, slice_index}
+use Rattle.std.proofs.lemmas.List.{append-nil, reverse-append, length-reverse, length-take}
+use Rattle.nm_base.specs.declared.kind.Kind.TheVariants.{Sent, Printed}
+use Rattle.nm_base.specs.declared.kind.FaultCause.TheVariants.{Address, OutputFull}
+use Rattle.c_tree.specs.State.{State, Run, ◌>>=◌, ◌>>◌, pure, read, change, happen}
+use Rattle.c_tree.specs.Print.{printed}
+use Rattle.c_tree.specs.Expr.{demand, padded, send, send_words, print}
+use Rattle.stack_code.specs.Machine.{Control, popped, push}
+use Rattle.proc_machine.specs.declared.execution.Execution.{Execution}
+use Rattle.proc_machine.specs.declared.pause.Pause.TheVariants as pause
+use Rattle.proc_machine.specs.Pauses.{pause_by}
+use Rattle.proc_machine.specs.View.{control_of, data_with, Pauses}
+use Rattle.proc_machine.proofs.Calling.{popped_are}
+
+take_one : (xs : List ℕ) (i : ℕ) → i < length xs → take (suc i) xs ≡ take i xs ++ slice_index xs i ∷ []
+take_one [] i h = absurd (omega (arith, h))
+take_one (x ∷ xs) zero h = refl
+take_one (x ∷ xs) (suc i) h = ap (λ l. x ∷ l) (take_one xs i (omega (arith, h)))
+
+reverse_one : (xs : List ℕ) (i : ℕ) → i < length xs → reverse (take (suc i) xs) ≡ slice_index xs i ∷ reverse (take i xs)
+reverse_one xs i h = ap reverse (take_one xs i h) ∙ reverse-append (take i xs) (slice_index xs i ∷ [])
+
+-- operands that were taken off, in the order of pushing
+pub taken_off : (n : ℕ) (own : List ℕ) → n ≤ length own → popped n own [] ≡ (reverse (take n own), drop n own)
+taken_off n own h = popped_are n own [] h ∙ ap (λ (l : List ℕ). (l, drop n own)) (append-nil (reverse (take n own)))
+
+first_of : (xs : List ℕ) → 1 ≤ length xs → (w : ℕ) × (ws : List ℕ) × (xs ≡ w ∷ ws)
+first_of [] h = absurd (omega (arith, h))
+first_of (w ∷ ws) h = (w, ws, refl)
+
+abbrev sent_if : Bool → ℕ → ℕ → List ℕ → Run ℕ
+sent_if b dest chan words = do
+  demand b Address
+  number ← read (λ s. s.sent)
+  happen (Sent number (record { no = dest }) chan (length words) (padded words))
+  change (λ s. record s { sent = s.sent + 1 })
+  pure 0
+
+abbrev printed_if : Bool → List ℕ → Run ℕ
+printed_if b bytes = do
+  demand b OutputFull
+  happen (Printed (length bytes))
+  change (λ s. record s { output = s.output ++ bytes })
+  pure (length bytes)
+
+module _ (e : Execution) where
+  abbrev own : List ℕ
+  own = e.operands.own
+
+  abbrev c : Control
+  c = control_of e
+
+  module _ (count words : ℕ) (few : words + 2 ≤ length own) (some : 1 ≤ words) where
+    abbrev dest : ℕ
+    dest = slice_index own (words + 1)
+
+    abbrev chan : ℕ
+    chan = slice_index own words
+
+    -- what is sent
+    pub letter_words : (w : ℕ) × (ws : List ℕ) × (reverse (take words own) ≡ w ∷ ws)
+    letter_words = first_of (reverse (take words own)) (let a = length-take words own in omega (arith, length-reverse (take words own), a, few, some))
+
+    pub send_is : popped (words + 2) own [] ≡ (dest ∷ chan ∷ letter_words.0 ∷ letter_words.1, drop (words + 2) own)
+    send_is =
+        let n : words + 2 ≡ suc (words + 1) = omega arith in
+        let m : words + 1 ≡ suc words = omega arith in
+        let lt : words + 1 < length own = omega (arith, few) in
+        let lt2 : words < length own = omega (arith, few) in
+        taken_off (words + 2) own few
+        ∙ ap (λ (l : List ℕ). (l, drop (words + 2) own)) (ap (λ k. reverse (take k own)) n ∙ reverse_one own (words + 1) lt ∙ ap (λ l. dest ∷ l) (ap (λ k. reverse (take k own)) m ∙ reverse_one own words lt2 ∙ ap (λ l. chan ∷ l) letter_words.2))
+
+    abbrev test : Bool
+    test = nat_lt dest count && nat_lt chan 32
+
+    abbrev whole : List ℕ
+    whole = take 8 (letter_words.0 ∷ letter_words.1)
+
+    abbrev sending : Run Control
+    sending = push c (popped (words + 2) own []).1 (send_words count (popped (words + 2) own []).0)
+
+    pub sending_is : sending ≡ push c (drop (words + 2) own) (send count dest chan whole)
+    sending_is = ap (λ (p : List ℕ × List ℕ). push c p.1 (send_words count p.0)) send_is
+
+    pub send_pauses : test ≡ true → Pauses sending e pause.Send
+    send_pauses h =
+        subst (λ run. Pauses run e pause.Send) (sym sending_is)
+        (subst (λ b. Pauses (push c (drop (words + 2) own) (sent_if b dest chan whole)) e pause.Send) (sym h) (record { stops = λ events. refl; next_is = refl }))
+
+    pub send_faults : test ≡ false → Pauses sending e (pause.Fault Address)
+    send_faults h =
+        subst (λ run. Pauses run e (pause.Fault Address)) (sym sending_is)
+        (subst (λ b. Pauses (push c (drop (words + 2) own) (sent_if b dest chan whole)) e (pause.Fault Address)) (sym h) (record { stops = λ events. refl; next_is = refl }))
+
+  module _ (text : List ℕ) (n : ℕ) (few : n ≤ length own) where
+    abbrev bytes : List ℕ
+    bytes = printed text (reverse (take n own))
+
+    abbrev printing : Run Control
+    printing = push c (popped n own []).1 (print (printed text (popped n own []).0))
+
+    pub printing_is : printing ≡ push c (drop n own) (print bytes)
+    printing_is = ap (λ (p : List ℕ × List ℕ). push c p.1 (print (printed text p.0))) (taken_off n own few)
+
+    abbrev room : Bool
+    room = nat_le (length e.output.items + length bytes) 1048576
+
+    pub print_pauses : room ≡ true → Pauses printing e pause.Print
+    print_pauses h =
+        subst (λ run. Pauses run e pause.Print) (sym printing_is)
+        (record {
+          stops = λ events. ap (λ b. push c (drop n own) (printed_if b bytes) (data_with e events 0)) h;
+          next_is = ap (λ b. pause_by (push c (drop n own) (printed_if b bytes) (data_with e [] 1))) h;
+        })
+
+    pub print_faults : room ≡ false → Pauses printing e (pause.Fault OutputFull)
+    print_faults h =
+        subst (λ run. Pauses run e (pause.Fault OutputFull)) (sym printing_is)
+        (record {
+          stops = λ events. ap (λ b. push c (drop n own) (printed_if b bytes) (data_with e events 0)) h;
+          next_is = ap (λ b. pause_by (push c (drop n own) (printed_if b bytes) (data_with e [] 1))) h;
+        })
+
+pub word_bounds : (words : ℕ) → IsTrue (nat_le 1 words && nat_le words 8) → (1 ≤ words) × (words ≤ 8)
+word_bounds words h = let b = both (nat_le 1 words) (nat_le words 8) h in (leb-true 1 words b.0, leb-true words 8 b.1)
+  where
+    both : (a b : Bool) → (a && b) ≡ true → (a ≡ true) × (b ≡ true)
+    both true b h = (refl, h)
+    both false b h = cc
+
+pub is_below : (j n : ℕ) → j < n → IsTrue (nat_lt j n)
+is_below j n h = search (rules, tests)
+
+pub text_bounds : (text count len : ℕ) → IsTrue (nat_lt text count && nat_le len 509) → (text < count) × (len ≤ 509)
+text_bounds text count len h = let b = both (nat_lt text count) (nat_le len 509) h in (ltb-true text count b.0, leb-true len 509 b.1)
+  where
+    both : (a b : Bool) → (a && b) ≡ true → (a ≡ true) × (b ≡ true)
+    both true b h = (refl, h)
+    both false b h = cc
