@@ -1,8 +1,8 @@
 -- Sends, receives and prints stand before their events, or before a fault.
-use Rattle.std.proofs.Common.{◌≡◌, ℕ, zero, suc, ◌+◌, ◌-◌, ◌<◌, ◌≤◌, Bool, true, false, List, [], ◌∷◌, ◌++◌, length, take, drop, reverse, replicate, Option, Some, None, refl, sym, ap, ◌∙◌, subst, arith, rules, tests, append_assoc}
+use Rattle.std.proofs.Common.{◌≡◌, ℕ, zero, suc, ◌+◌, ◌-◌, ◌<◌, ◌≤◌, ◌^◌, get_or, Bool, true, false, List, [], ◌∷◌, ◌++◌, length, take, drop, reverse, replicate, Option, Some, None, refl, sym, ap, ◌∙◌, subst, arith, rules, tests, append_assoc}
 use Rattle.std.proofs.lemmas.Bool.{ltb-true, leb-true}
 use Rattle.std.specs.Prelude.{IsTrue, nat_lt, nat_le, ◌&&◌, slice_index}
-use Rattle.std.proofs.lemmas.List.{append-nil, reverse-append, length-reverse, length-take}
+use Rattle.std.proofs.lemmas.List.{append-nil, reverse-append, length-reverse, length-take, get_or-reverse}
 use Rattle.nm_base.specs.declared.kind.Kind.TheVariants.{Sent, Printed}
 use Rattle.nm_base.specs.declared.kind.FaultCause.TheVariants.{Address, OutputFull}
 use Rattle.c_tree.specs.State.{State, Run, ◌>>=◌, ◌>>◌, pure, read, change, happen}
@@ -140,3 +140,26 @@ text_bounds text count len h = let b = both (nat_lt text count) (nat_le len 509)
     both : (a b : Bool) → (a && b) ≡ true → (a ≡ true) × (b ≡ true)
     both true b h = (refl, h)
     both false b h = cc
+
+got_take : (own : List ℕ) (n j d : ℕ) → j < n → n ≤ length own → get_or (take n own) j d ≡ slice_index own j
+got_take own zero j d h m = absurd (omega (arith, h))
+got_take [] (suc n) j d h m = absurd (omega (arith, m))
+got_take (x ∷ own) (suc n) zero d h m = refl
+got_take (x ∷ own) (suc n) (suc j) d h m = got_take own n j d (omega (arith, h)) (omega (arith, m))
+
+pub taken_words : (own : List ℕ) (n : ℕ) → n ≤ length own → ((j : ℕ) → j < n → slice_index own j < 2 ^ 32) → (k d : ℕ) → k < length (reverse (take n own)) → get_or (reverse (take n own)) k d < 2 ^ 32
+taken_words own n m h k d lt =
+    let len : length (take n own) ≡ n = let a = length-take n own in omega (arith, a, m) in
+    let rev = length-reverse (take n own) in
+    let k2 : k < length (take n own) = omega (arith, lt, rev) in
+    let j = length (take n own) - 1 - k in
+    let below : j < n = omega (arith, len, k2) in
+    let small : slice_index own j < 2 ^ 32 = h j below in
+    let P : ℕ → Type 0 = λ x. x < 2 ^ 32 in
+    subst P (sym (get_or-reverse (take n own) k d k2 ∙ got_take own n j d below m)) small
+
+pub has_room : (a b : ℕ) → a ≤ b → nat_le a b ≡ true
+has_room a b h = search (rules, tests)
+
+pub no_room : (a b : ℕ) → b < a → nat_le a b ≡ false
+no_room a b h = search (rules, tests)
