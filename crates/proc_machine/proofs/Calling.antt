@@ -81,19 +81,19 @@ module _ (e : Execution) where
   frames_length [] = refl
   frames_length (k ∷ ks) = ap suc (frames_length ks)
 
-  pub is_deep : 256 ≤ length e.callers + 1 → depth ≡ false
+  pub is_deep : 256 ≤ length e.calls.callers + 1 → depth ≡ false
   is_deep h = by depth refl
     where
       by : (b : Bool) → depth ≡ b → depth ≡ false
       by false t = t
-      by true t = absurd (omega (arith, h, ltb-true (suc (length (frames_in e.callers))) 256 t, frames_length e.callers))
+      by true t = absurd (omega (arith, h, ltb-true (suc (length (frames_in e.calls.callers))) 256 t, frames_length e.calls.callers))
 
-  pub is_low : length e.callers + 1 < 256 → depth ≡ true
+  pub is_low : length e.calls.callers + 1 < 256 → depth ≡ true
   is_low h = by depth refl
     where
       by : (b : Bool) → depth ≡ b → depth ≡ true
       by true t = t
-      by false t = absurd (omega (arith, h, ltb-false (suc (length (frames_in e.callers))) 256 t, frames_length e.callers))
+      by false t = absurd (omega (arith, h, ltb-false (suc (length (frames_in e.calls.callers))) 256 t, frames_length e.calls.callers))
 
   pub is_full : (size : ℕ) → 65536 < length e.words + size → fits size ≡ false
   is_full size h = by (fits size) refl
@@ -112,7 +112,7 @@ module _ (e : Execution) where
   -- a call's frame, with these operands left to the caller above those of its callers, and these words first
   abbrev made : ℕ → FunctionCode → List Kind → List ℕ → List ℕ → List ℕ → Outcome Control
   made number g events stack outer words =
-      Done (record { function = number; pc = 0; stack = []; callers = record { function = e.frame.function; pc = e.frame.place; stack = stack } ∷ callers_of e.callers outer }) (new_frame number g.line g.frame_words words (data_with e events 0))
+      Done (record { function = number; pc = 0; stack = []; callers = record { function = e.frame.function; pc = e.frame.place; stack = stack } ∷ callers_of e.calls.callers outer }) (new_frame number g.line g.frame_words words (data_with e events 0))
 
   module _ (number : ℕ) (f : FunctionFrame) where
     pub called_deep : (o : Option FunctionCode) → option_map frame_of o ≡ Some f → depth ≡ false → Pauses (called number o (control_of e)) e (Fault DepthFull)
@@ -129,23 +129,23 @@ module _ (e : Execution) where
           next_is = ap pause_by (past_depth g.frame_words depth h _ _ [] 1) ∙ fails_next g.frame_words (fits g.frame_words) d2 _ _;
         }
 
-    pub called_goes : (o : Option FunctionCode) → option_map frame_of o ≡ Some f → depth ≡ true → fits f.frame_words ≡ true → f.param_words ≤ length e.operands.own → (events : List Kind) → called number o (control_of e) (data_with e events 0) ≡ Done (control_of (opened number f e)) (data_with (opened number f e) events 0)
+    pub called_goes : (o : Option FunctionCode) → option_map frame_of o ≡ Some f → depth ≡ true → fits f.frame_words ≡ true → f.param_words ≤ length e.calls.own → (events : List Kind) → called number o (control_of e) (data_with e events 0) ≡ Done (control_of (opened number f e)) (data_with (opened number f e) events 0)
     called_goes None is h d few events = cc
     called_goes (Some g) is h d few events =
         let same : frame_of g ≡ f = cc in
-        subst (λ (x : FunctionFrame). fits x.frame_words ≡ true → x.param_words ≤ length e.operands.own → called number (Some g) (control_of e) (data_with e events 0) ≡ Done (control_of (opened number x e)) (data_with (opened number x e) events 0)) same by_frame d few
+        subst (λ (x : FunctionFrame). fits x.frame_words ≡ true → x.param_words ≤ length e.calls.own → called number (Some g) (control_of e) (data_with e events 0) ≡ Done (control_of (opened number x e)) (data_with (opened number x e) events 0)) same by_frame d few
       where
-        by_frame : fits g.frame_words ≡ true → g.param_words ≤ length e.operands.own → called number (Some g) (control_of e) (data_with e events 0) ≡ Done (control_of (opened number (frame_of g) e)) (data_with (opened number (frame_of g) e) events 0)
+        by_frame : fits g.frame_words ≡ true → g.param_words ≤ length e.calls.own → called number (Some g) (control_of e) (data_with e events 0) ≡ Done (control_of (opened number (frame_of g) e)) (data_with (opened number (frame_of g) e) events 0)
         by_frame d few =
-            let own = e.operands.own in
+            let own = e.calls.own in
             let n = g.param_words in
             let left = drop n own in
             past_depth g.frame_words depth h _ _ events 0
             ∙ holds_goes g.frame_words (fits g.frame_words) d _ _ events
-            ∙ ap (λ (p : List ℕ × List ℕ). Done (record { function = number; pc = 0; stack = []; callers = record { function = e.frame.function; pc = e.frame.place; stack = p.1 } ∷ callers_of e.callers e.operands.outer }) (new_frame number g.line g.frame_words p.0 (data_with e events 0))) (popped_are n own [] few)
-            ∙ ap (λ l. made number g events left e.operands.outer l) (append-nil (reverse (take n own)))
-            ∙ ap (λ l. made number g events l e.operands.outer (reverse (take n own))) (sym (upper_all left e.operands.outer))
-            ∙ ap (λ l. made number g events (upper (length e.operands.outer) (left ++ e.operands.outer)) l (reverse (take n own))) (sym (lower_all left e.operands.outer))
+            ∙ ap (λ (p : List ℕ × List ℕ). Done (record { function = number; pc = 0; stack = []; callers = record { function = e.frame.function; pc = e.frame.place; stack = p.1 } ∷ callers_of e.calls.callers e.calls.outer }) (new_frame number g.line g.frame_words p.0 (data_with e events 0))) (popped_are n own [] few)
+            ∙ ap (λ l. made number g events left e.calls.outer l) (append-nil (reverse (take n own)))
+            ∙ ap (λ l. made number g events l e.calls.outer (reverse (take n own))) (sym (upper_all left e.calls.outer))
+            ∙ ap (λ l. made number g events (upper (length e.calls.outer) (left ++ e.calls.outer)) l (reverse (take n own))) (sym (lower_all left e.calls.outer))
 
 pub params_are : (o : Option FunctionCode) (f : FunctionFrame) → option_map frame_of o ≡ Some f → param_words_by o ≡ f.param_words
 params_are None f h = cc

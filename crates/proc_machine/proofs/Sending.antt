@@ -48,7 +48,7 @@ printed_if b bytes = do
 
 module _ (e : Execution) where
   abbrev own : List ℕ
-  own = e.operands.own
+  own = e.calls.own
 
   abbrev c : Control
   c = control_of e

@@ -1,9 +1,11 @@
 -- The operands above and below a base, when the vector that holds them grows and shrinks at its end.
-use Rattle.std.proofs.Common.{◌≡◌, ℕ, zero, suc, ◌+◌, ◌-◌, ◌<◌, ◌≤◌, List, [], ◌∷◌, ◌++◌, length, take, drop, reverse, replicate, min, refl, sym, ap, ◌∙◌, subst, arith, length-append}
+use Rattle.std.proofs.Common.{◌≡◌, ℕ, zero, suc, ◌+◌, ◌-◌, ◌*◌, ◌<◌, ◌≤◌, List, [], ◌∷◌, ◌++◌, length, take, drop, reverse, replicate, min, refl, sym, ap, ◌∙◌, subst, arith, length-append, mul-le-mul_right}
 use Rattle.std.specs.Prelude.{slice_index, slice_set}
 use Rattle.c_tree.specs.Storage.{zeroed}
+use Rattle.std.proofs.Math.Nat.{suc-mul}
 use Rattle.std.proofs.lemmas.List.{reverse-append, reverse-reverse, length-reverse, take-append-drop, length-drop, length-take}
-use Rattle.proc_machine.specs.Stacked.{OperandStack, upper, lower}
+use Rattle.proc_machine.specs.declared.callers.Caller.{Caller}
+use Rattle.proc_machine.specs.Stacked.{OperandStack, Fits, upper, lower}
 
 abbrev pub stack_at : List ℕ → ℕ → ℕ → OperandStack
 stack_at r base limit = record { own = upper base r; outer = lower base r; limit = limit }
@@ -109,3 +111,23 @@ next_word (x ∷ first) size (suc i) h = ap (λ l. x ∷ l) (next_word first siz
 
 pub cleared_one : (m n at i : ℕ) (w : List ℕ) → m ≡ suc n → zeroed m at w ≡ zeroed n (at + 1) (slice_set w at 0)
 cleared_one m n at i w e = ap (λ k. zeroed k at w) e
+
+-- ---- operands of callers
+
+split_length : (below : ℕ) (outer : List ℕ) → length (upper below outer) + length (lower below outer) ≡ length outer
+split_length below outer = sym (length-append (upper below outer) (lower below outer)) ∙ ap length (take-append-drop (length outer - below) outer)
+
+outer_most : (height : ℕ) (ks : List Caller) (outer : List ℕ) → Fits height ks outer → length outer ≤ length ks * height
+outer_most height [] outer h = omega (arith, h)
+outer_most height (k ∷ ks) outer h =
+    let rest = outer_most height ks (lower k.below outer) h.1 in
+    let both = split_length k.below outer in
+    let first = h.0 in
+    let more : suc (length ks) * height ≡ length ks * height + height = suc-mul (length ks) height in
+    omega (arith, rest, both, first, more)
+
+pub room_for_one : (height limit own : ℕ) (ks : List Caller) (outer : List ℕ) → own < height → length ks ≤ 255 → 256 * height ≤ limit → Fits height ks outer → own + length outer < limit
+room_for_one height limit own ks outer lt few most h =
+    let a = outer_most height ks outer h in
+    let b : length ks * height ≤ 255 * height = mul-le-mul_right height few in
+    omega (arith, a, b, lt, most)

@@ -71,8 +71,8 @@ is_named code i = true
 
 -- an instruction finds its operands, and room for what it pushes
 pub record IsReady (code : Code) (i : Instr) (e : Execution) : Type 0 where
-  pub some : needs code i ≤ length e.operands.own
-  pub words : (j : ℕ) → IsTrue (is_word_at code i j) → slice_index e.operands.own j < 2 ^ 32
-  pub room : length e.operands.own + adds i + length e.operands.outer ≤ e.operands.limit
+  pub some : needs code i ≤ length e.calls.own
+  pub words : (j : ℕ) → IsTrue (is_word_at code i j) → slice_index e.calls.own j < 2 ^ 32
+  pub room : length e.calls.own + adds i ≤ e.calls.height
   pub onward : e.frame.place + 1 < 2 ^ 32
   pub named : IsTrue (is_named code i)

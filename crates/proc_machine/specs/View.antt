@@ -20,7 +20,7 @@ callers_of [] operands = []
 callers_of (k ∷ ks) operands = record { function = k.frame.function; pc = k.frame.place; stack = upper k.below operands } ∷ callers_of ks (lower k.below operands)
 
 abbrev pub control_of : Execution → Control
-control_of e = record { function = e.frame.function; pc = e.frame.place; stack = e.operands.own; callers = callers_of e.callers e.operands.outer }
+control_of e = record { function = e.frame.function; pc = e.frame.place; stack = e.calls.own; callers = callers_of e.calls.callers e.calls.outer }
 
 abbrev pub frame_in : KeptFrame → state.Frame
 frame_in f = record { function = f.function; line = f.line; base = f.base; entered = [] }
@@ -33,7 +33,7 @@ frames_in (k ∷ ks) = frame_in k.frame ∷ frames_in ks
 abbrev pub data_with : Execution → List Kind → ℕ → State
 data_with e events left = record {
   words = e.words;
-  frames = frame_in e.frame ∷ frames_in e.callers;
+  frames = frame_in e.frame ∷ frames_in e.calls.callers;
   letter = option_map message_of e.letter;
   output = e.output.items;
   inputs = [];
@@ -56,26 +56,21 @@ Moves run old new (Some next) = (new ≡ old) × Pauses (run (control_of old)) o
 
 -- the next instruction, with these operands
 abbrev pub onward : Execution → List ℕ → Execution
-onward e own = record e { frame = record e.frame { place = e.frame.place + 1 }; operands = record e.operands { own = own } }
+onward e own = record e { frame = record e.frame { place = e.frame.place + 1 }; calls = record e.calls { own = own } }
 
 -- a value takes the place of so many operands, or a fault leaves all as it is
 abbrev pub given : ℕ → Result ℕ FaultCause → Execution → Execution
-given taken (Ok v) e = onward e (v ∷ drop taken e.operands.own)
+given taken (Ok v) e = onward e (v ∷ drop taken e.calls.own)
 given taken (Err cause) e = e
 
 -- a call's frame is made: the operands for its parameters are its first words
 abbrev pub opened : ℕ → FunctionFrame → Execution → Execution
 opened number f e = record e {
   frame = record { function = number; place = 0; line = f.line; base = length e.words };
-  callers = record { frame = e.frame; below = length e.operands.outer } ∷ e.callers;
-  operands = record e.operands { own = []; outer = drop f.param_words e.operands.own ++ e.operands.outer };
-  words = e.words ++ take f.frame_words (reverse (take f.param_words e.operands.own) ++ replicate f.frame_words 0);
-}
-
--- the innermost frame goes, and its caller goes on with the value
-abbrev pub closed : KeptCaller → ℕ → Execution → Execution
-closed k v e = record e {
-  frame = record k.frame { place = k.frame.place + 1 };
-  operands = record e.operands { own = v ∷ upper k.below e.operands.outer; outer = lower k.below e.operands.outer };
-  words = take e.frame.base e.words;
+  calls = record e.calls {
+    own = [];
+    outer = drop f.param_words e.calls.own ++ e.calls.outer;
+    callers = record { frame = e.frame; below = length e.calls.outer } ∷ e.calls.callers;
+  };
+  words = e.words ++ take f.frame_words (reverse (take f.param_words e.calls.own) ++ replicate f.frame_words 0);
 }

@@ -5,11 +5,11 @@ ghost use Rattle.stack_code.specs.declared.instr.Instr.TheVariants as instr;
 ghost use Rattle.stack_code.specs.Machine.{act};
 ghost use Rattle.stack_code.specs.View.{code_of};
 ghost use Rattle.proc_machine.specs.Ready.{IsReady};
-ghost use Rattle.proc_machine.specs.View.{Moves, opened, closed};
+ghost use Rattle.proc_machine.specs.View.{Moves, opened};
 ghost use Rattle.proc_machine.specs.Pauses.{word_in};
 ghost use Rattle.nm_base.specs.Message.{message_of};
 
-use crate::callers::{Caller, Frame};
+use crate::callers::Frame;
 use crate::execution::{Execution, Setting};
 use crate::pause::Pause;
 use crate::words::WORDS_LIMIT;
@@ -31,7 +31,7 @@ impl Execution {
         ensures { Moves (act (code_of at.entry.code.now) at.entry.count at.entry.me.no (instr.Call function)) self.old self.new result }
     {
         let frame = at.code.frame(function);
-        if self.callers.len() + 1 >= 256 {
+        if self.calls.callers() + 1 >= 256 {
             return Some(Pause::Fault {
                 cause: FaultCause::DepthFull,
             });
@@ -47,9 +47,10 @@ impl Execution {
 
     /// Makes the frame of a call, where there is room for it.
     fn open_frame(&mut self, function: u32, frame: FunctionFrame)
-        requires few { frame.param_words ≤ length self.old.operands.own }
-        requires words { (j : ℕ) → j < frame.param_words → slice_index self.old.operands.own j < 2 ^ 32 }
-        requires depth { length self.old.callers < 255 }
+        requires few { frame.param_words ≤ length self.old.calls.own }
+        requires words { (j : ℕ) → j < frame.param_words → slice_index self.old.calls.own j < 2 ^ 32 }
+        requires height { length self.old.calls.own < self.old.calls.height }
+        requires depth { length self.old.calls.callers < 255 }
         requires room { length self.old.words + frame.frame_words ≤ 65536 }
         requires further { self.old.frame.place + 1 < 2 ^ 32 }
         ensures { self.new ≡ opened function frame self.old }
@@ -57,13 +58,9 @@ impl Execution {
         let base = self.words.len() as u32;
         let params = frame.param_words as usize;
         self.words
-            .open(self.operands.last(params), frame.frame_words);
-        self.operands.discard(params);
-        let below = self.operands.enter();
-        self.callers.push(Caller {
-            frame: self.frame,
-            below,
-        });
+            .open(self.calls.last(params), frame.frame_words);
+        self.calls.discard(params);
+        self.calls.enter(self.frame);
         self.frame = Frame {
             function,
             place: 0,
@@ -77,29 +74,19 @@ impl Execution {
         requires { IsReady (code_of at.code.now) instr.Return self.old }
         ensures { Moves (act (code_of at.entry.code.now) at.entry.count at.entry.me.no instr.Return) self.old self.new result }
     {
-        let value = self.operands.top(0);
-        match self.callers.pop() {
+        let value = self.calls.top(0);
+        match self.calls.leave() {
             None => Some(Pause::End {
                 value: as_int(value as u32),
             }),
             Some(caller) => {
-                self.close_frame(caller, value);
+                self.calls.push(value);
+                self.words.close(self.frame.base);
+                self.frame = caller.frame;
+                self.frame.place += 1;
                 None
             }
         }
-    }
-
-    /// The innermost call gives its caller a value.
-    fn close_frame(&mut self, caller: Caller, value: u64)
-        requires room { length self.old.operands.outer < self.old.operands.limit }
-        requires onward { caller.frame.place + 1 < 2 ^ 32 }
-        ensures { self.new ≡ closed caller value self.old }
-    {
-        self.operands.leave(caller.below);
-        self.operands.push(value);
-        self.words.close(self.frame.base);
-        self.frame = caller.frame;
-        self.frame.place += 1;
     }
 
     /// Word.
@@ -107,7 +94,7 @@ impl Execution {
         requires { IsReady (code_of at.code.now) instr.Word self.old }
         ensures { Moves (act (code_of at.entry.code.now) at.entry.count at.entry.me.no instr.Word) self.old self.new result }
     {
-        let i = self.operands.top(0);
+        let i = self.calls.top(0);
         let value = match &self.letter {
             None => Err(FaultCause::NoLetter),
             Some(letter) => letter_word(letter, i),

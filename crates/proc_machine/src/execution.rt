@@ -1,7 +1,7 @@
 //! Where a process is in its code, with its data.
 
-use crate::callers::{Callers, Frame};
-use crate::operands::Operands;
+use crate::call_stack::CallStack;
+use crate::callers::Frame;
 use crate::scratch::Scratch;
 use crate::words::Words;
 use nm_base::{Letter, ProcNo};
@@ -15,13 +15,12 @@ pub(crate) struct Setting<'c> {
     pub count: u8,
 }
 
-/// A process that runs: the innermost call and those round it, the operands, the words of the
+/// A process that runs: the innermost call, those round it with all operands, the words of the
 /// variables, the last letter that was accepted, the output, and how many letters were sent.
 #[derive(Drop)]
 pub(crate) struct Execution {
     pub frame: Frame,
-    pub callers: Callers,
-    pub operands: Operands,
+    pub calls: CallStack,
     pub words: Words,
     pub letter: Option<Letter>,
     pub output: Vec<u8>,

@@ -2,8 +2,10 @@
 //! runs on to the next.
 #![tactic(auto)]
 
+mod call_stack;
 mod callers;
 mod calls;
+mod execute;
 mod execution;
 mod messages;
 mod operands;

@@ -21,8 +21,8 @@ impl Execution {
         requires { IsReady (code_of at.code.now) (instr.Send words) self.old }
         ensures { Moves (act (code_of at.entry.code.now) at.entry.count at.entry.me.no (instr.Send words)) self.old self.new result }
     {
-        let dest = self.operands.top(words as usize + 1);
-        let chan = self.operands.top(words as usize);
+        let dest = self.calls.top(words as usize + 1);
+        let chan = self.calls.top(words as usize);
         if is_address(dest, chan, at.count) {
             Some(Pause::Send)
         } else {
@@ -37,7 +37,7 @@ impl Execution {
         requires { IsReady (code_of at.code.now) instr.Receive self.old }
         ensures { Moves (act (code_of at.entry.code.now) at.entry.count at.entry.me.no instr.Receive) self.old self.new result }
     {
-        let set = self.operands.top(0) as u32;
+        let set = self.calls.top(0) as u32;
         if set == 0 {
             Some(Pause::Fault {
                 cause: FaultCause::EmptySet,
@@ -53,7 +53,7 @@ impl Execution {
         ensures { Moves (act (code_of at.entry.code.now) at.entry.count at.entry.me.no (instr.Print text)) self.old self.new result }
     {
         let bytes = at.code.text(text);
-        let values = self.operands.last(conversions(bytes));
+        let values = self.calls.last(conversions(bytes));
         let length = self.scratch.printed_length(bytes, values);
         if self.output.len().saturating_add(length) <= OUTPUT_LIMIT {
             Some(Pause::Print)

@@ -16,16 +16,16 @@ use stack_code::Instr;
 impl Execution {
     /// A value takes the place of the topmost operands, or a fault leaves all as it is.
     pub(crate) fn give(&mut self, taken: usize, value: Result<u64, FaultCause>) -> Option<Pause>
-        requires some { taken ≤ length self.old.operands.own }
-        requires room { length self.old.operands.own - taken + 1 + length self.old.operands.outer ≤ self.old.operands.limit }
+        requires some { taken ≤ length self.old.calls.own }
+        requires room { length self.old.calls.own - taken < self.old.calls.height }
         requires further { self.old.frame.place + 1 < 2 ^ 32 }
         ensures answer { result ≡ fault_of value }
         ensures state { self.new ≡ given taken value self.old }
     {
         match value {
             Ok(value) => {
-                self.operands.discard(taken);
-                self.operands.push(value);
+                self.calls.discard(taken);
+                self.calls.push(value);
                 self.frame.place += 1;
                 None
             }
@@ -34,7 +34,7 @@ impl Execution {
     }
 
     /// Push.
-    fn push_bits(&mut self, at: Setting<'_>, bits: u32) -> Option<Pause>
+    pub(crate) fn push_bits(&mut self, at: Setting<'_>, bits: u32) -> Option<Pause>
         requires { IsReady (code_of at.code.now) (instr.Push bits) self.old }
         ensures { Moves (act (code_of at.entry.code.now) at.entry.count at.entry.me.no (instr.Push bits)) self.old self.new result }
     {
@@ -42,66 +42,66 @@ impl Execution {
     }
 
     /// Load.
-    fn load(&mut self, at: Setting<'_>) -> Option<Pause>
+    pub(crate) fn load(&mut self, at: Setting<'_>) -> Option<Pause>
         requires { IsReady (code_of at.code.now) instr.Load self.old }
         ensures { Moves (act (code_of at.entry.code.now) at.entry.count at.entry.me.no instr.Load) self.old self.new result }
     {
-        let word = self.words.get(self.operands.top(0));
+        let word = self.words.get(self.calls.top(0));
         self.give(1, Ok(u64::from(word)))
     }
 
     /// Store.
-    fn store(&mut self, at: Setting<'_>) -> Option<Pause>
+    pub(crate) fn store(&mut self, at: Setting<'_>) -> Option<Pause>
         requires { IsReady (code_of at.code.now) instr.Store self.old }
         ensures { Moves (act (code_of at.entry.code.now) at.entry.count at.entry.me.no instr.Store) self.old self.new result }
     {
-        let word = self.operands.top(0);
-        self.words.set(self.operands.top(1), word as u32);
+        let word = self.calls.top(0);
+        self.words.set(self.calls.top(1), word as u32);
         self.give(2, Ok(word))
     }
 
     /// Unary.
-    fn unary(&mut self, at: Setting<'_>, op: UnaryOp, of: Ctype) -> Option<Pause>
+    pub(crate) fn unary(&mut self, at: Setting<'_>, op: UnaryOp, of: Ctype) -> Option<Pause>
         requires { IsReady (code_of at.code.now) (instr.Unary op of) self.old }
         ensures { Moves (act (code_of at.entry.code.now) at.entry.count at.entry.me.no (instr.Unary op of)) self.old self.new result }
     {
-        let value = apply_unary(op, of, self.operands.top(0) as u32);
+        let value = apply_unary(op, of, self.calls.top(0) as u32);
         self.give(1, wide(value))
     }
 
     /// Drop.
-    fn drop_top(&mut self, at: Setting<'_>) -> Option<Pause>
+    pub(crate) fn drop_top(&mut self, at: Setting<'_>) -> Option<Pause>
         requires { IsReady (code_of at.code.now) instr.Drop self.old }
         ensures { Moves (act (code_of at.entry.code.now) at.entry.count at.entry.me.no instr.Drop) self.old self.new result }
     {
-        self.operands.discard(1);
+        self.calls.discard(1);
         self.frame.place += 1;
         None
     }
 
     /// Dup.
-    fn duplicate(&mut self, at: Setting<'_>) -> Option<Pause>
+    pub(crate) fn duplicate(&mut self, at: Setting<'_>) -> Option<Pause>
         requires { IsReady (code_of at.code.now) instr.Dup self.old }
         ensures { Moves (act (code_of at.entry.code.now) at.entry.count at.entry.me.no instr.Dup) self.old self.new result }
     {
-        let value = self.operands.top(0);
+        let value = self.calls.top(0);
         self.give(0, Ok(value))
     }
 
     /// Swap.
-    fn swap(&mut self, at: Setting<'_>) -> Option<Pause>
+    pub(crate) fn swap(&mut self, at: Setting<'_>) -> Option<Pause>
         requires { IsReady (code_of at.code.now) instr.Swap self.old }
         ensures { Moves (act (code_of at.entry.code.now) at.entry.count at.entry.me.no instr.Swap) self.old self.new result }
     {
-        let first = self.operands.top(0);
-        let second = self.operands.top(1);
-        self.operands.discard(2);
-        self.operands.push(first);
+        let first = self.calls.top(0);
+        let second = self.calls.top(1);
+        self.calls.discard(2);
+        self.calls.push(first);
         self.give(0, Ok(second))
     }
 
     /// GlobalPlace.
-    fn global_place(&mut self, at: Setting<'_>, slot: u32) -> Option<Pause>
+    pub(crate) fn global_place(&mut self, at: Setting<'_>, slot: u32) -> Option<Pause>
         requires { IsReady (code_of at.code.now) (instr.GlobalPlace slot) self.old }
         ensures { Moves (act (code_of at.entry.code.now) at.entry.count at.entry.me.no (instr.GlobalPlace slot)) self.old self.new result }
     {
@@ -109,7 +109,7 @@ impl Execution {
     }
 
     /// LocalPlace.
-    fn local_place(&mut self, at: Setting<'_>, slot: u32) -> Option<Pause>
+    pub(crate) fn local_place(&mut self, at: Setting<'_>, slot: u32) -> Option<Pause>
         requires { IsReady (code_of at.code.now) (instr.LocalPlace slot) self.old }
         ensures { Moves (act (code_of at.entry.code.now) at.entry.count at.entry.me.no (instr.LocalPlace slot)) self.old self.new result }
     {
@@ -117,77 +117,77 @@ impl Execution {
     }
 
     /// GlobalAt.
-    fn global_at(&mut self, at: Setting<'_>, base: u32, len: u32) -> Option<Pause>
+    pub(crate) fn global_at(&mut self, at: Setting<'_>, base: u32, len: u32) -> Option<Pause>
         requires { IsReady (code_of at.code.now) (instr.GlobalAt base len) self.old }
         ensures { Moves (act (code_of at.entry.code.now) at.entry.count at.entry.me.no (instr.GlobalAt base len)) self.old self.new result }
     {
-        let i = self.operands.top(0);
+        let i = self.calls.top(0);
         self.give(1, element(u64::from(base), len, i))
     }
 
     /// LocalAt.
-    fn local_at(&mut self, at: Setting<'_>, base: u32, len: u32) -> Option<Pause>
+    pub(crate) fn local_at(&mut self, at: Setting<'_>, base: u32, len: u32) -> Option<Pause>
         requires { IsReady (code_of at.code.now) (instr.LocalAt base len) self.old }
         ensures { Moves (act (code_of at.entry.code.now) at.entry.count at.entry.me.no (instr.LocalAt base len)) self.old self.new result }
     {
-        let i = self.operands.top(0);
+        let i = self.calls.top(0);
         let place = self.place_of(base);
         self.give(1, element(place, len, i))
     }
 
     /// ParamAt.
-    fn param_at(&mut self, at: Setting<'_>, slot: u32) -> Option<Pause>
+    pub(crate) fn param_at(&mut self, at: Setting<'_>, slot: u32) -> Option<Pause>
         requires { IsReady (code_of at.code.now) (instr.ParamAt slot) self.old }
         ensures { Moves (act (code_of at.entry.code.now) at.entry.count at.entry.me.no (instr.ParamAt slot)) self.old self.new result }
     {
         let place = self.words.get(self.place_of(slot));
         let len = self.words.get(self.place_of(slot) + 1);
-        let i = self.operands.top(0);
+        let i = self.calls.top(0);
         self.give(1, element(u64::from(place), len, i))
     }
 
     /// GlobalArray.
-    fn global_array(&mut self, at: Setting<'_>, base: u32, len: u32) -> Option<Pause>
+    pub(crate) fn global_array(&mut self, at: Setting<'_>, base: u32, len: u32) -> Option<Pause>
         requires { IsReady (code_of at.code.now) (instr.GlobalArray base len) self.old }
         ensures { Moves (act (code_of at.entry.code.now) at.entry.count at.entry.me.no (instr.GlobalArray base len)) self.old self.new result }
     {
-        self.operands.push(u64::from(base));
+        self.calls.push(u64::from(base));
         self.give(0, Ok(u64::from(len)))
     }
 
     /// LocalArray.
-    fn local_array(&mut self, at: Setting<'_>, base: u32, len: u32) -> Option<Pause>
+    pub(crate) fn local_array(&mut self, at: Setting<'_>, base: u32, len: u32) -> Option<Pause>
         requires { IsReady (code_of at.code.now) (instr.LocalArray base len) self.old }
         ensures { Moves (act (code_of at.entry.code.now) at.entry.count at.entry.me.no (instr.LocalArray base len)) self.old self.new result }
     {
         let place = self.place_of(base);
-        self.operands.push(place);
+        self.calls.push(place);
         self.give(0, Ok(u64::from(len)))
     }
 
     /// ParamArray.
-    fn param_array(&mut self, at: Setting<'_>, slot: u32) -> Option<Pause>
+    pub(crate) fn param_array(&mut self, at: Setting<'_>, slot: u32) -> Option<Pause>
         requires { IsReady (code_of at.code.now) (instr.ParamArray slot) self.old }
         ensures { Moves (act (code_of at.entry.code.now) at.entry.count at.entry.me.no (instr.ParamArray slot)) self.old self.new result }
     {
         let place = self.words.get(self.place_of(slot));
         let len = self.words.get(self.place_of(slot) + 1);
-        self.operands.push(u64::from(place));
+        self.calls.push(u64::from(place));
         self.give(0, Ok(u64::from(len)))
     }
 
     /// Binary.
-    fn binary(&mut self, at: Setting<'_>, op: BinaryOp, of: Ctype) -> Option<Pause>
+    pub(crate) fn binary(&mut self, at: Setting<'_>, op: BinaryOp, of: Ctype) -> Option<Pause>
         requires { IsReady (code_of at.code.now) (instr.Binary op of) self.old }
         ensures { Moves (act (code_of at.entry.code.now) at.entry.count at.entry.me.no (instr.Binary op of)) self.old self.new result }
     {
-        let left = self.operands.top(1) as u32;
-        let right = self.operands.top(0) as u32;
+        let left = self.calls.top(1) as u32;
+        let right = self.calls.top(0) as u32;
         self.give(2, wide(apply_binary(op, of, left, right)))
     }
 
     /// Jump.
-    fn jump(&mut self, at: Setting<'_>, target: u32) -> Option<Pause>
+    pub(crate) fn jump(&mut self, at: Setting<'_>, target: u32) -> Option<Pause>
         requires { IsReady (code_of at.code.now) (instr.Jump target) self.old }
         ensures { Moves (act (code_of at.entry.code.now) at.entry.count at.entry.me.no (instr.Jump target)) self.old self.new result }
     {
@@ -196,12 +196,12 @@ impl Execution {
     }
 
     /// JumpZero.
-    fn jump_zero(&mut self, at: Setting<'_>, target: u32) -> Option<Pause>
+    pub(crate) fn jump_zero(&mut self, at: Setting<'_>, target: u32) -> Option<Pause>
         requires { IsReady (code_of at.code.now) (instr.JumpZero target) self.old }
         ensures { Moves (act (code_of at.entry.code.now) at.entry.count at.entry.me.no (instr.JumpZero target)) self.old self.new result }
     {
-        let value = self.operands.top(0);
-        self.operands.discard(1);
+        let value = self.calls.top(0);
+        self.calls.discard(1);
         if value == 0 {
             self.frame.place = target;
         } else {
@@ -211,7 +211,7 @@ impl Execution {
     }
 
     /// Zero.
-    fn zero(&mut self, at: Setting<'_>, base: u32, len: u32) -> Option<Pause>
+    pub(crate) fn zero(&mut self, at: Setting<'_>, base: u32, len: u32) -> Option<Pause>
         requires { IsReady (code_of at.code.now) (instr.Zero base len) self.old }
         ensures { Moves (act (code_of at.entry.code.now) at.entry.count at.entry.me.no (instr.Zero base len)) self.old self.new result }
     {
@@ -222,7 +222,7 @@ impl Execution {
     }
 
     /// SelfNo.
-    fn self_no(&mut self, at: Setting<'_>) -> Option<Pause>
+    pub(crate) fn self_no(&mut self, at: Setting<'_>) -> Option<Pause>
         requires { IsReady (code_of at.code.now) instr.SelfNo self.old }
         ensures { Moves (act (code_of at.entry.code.now) at.entry.count at.entry.me.no instr.SelfNo) self.old self.new result }
     {
@@ -230,7 +230,7 @@ impl Execution {
     }
 
     /// Count.
-    fn count(&mut self, at: Setting<'_>) -> Option<Pause>
+    pub(crate) fn count(&mut self, at: Setting<'_>) -> Option<Pause>
         requires { IsReady (code_of at.code.now) instr.Count self.old }
         ensures { Moves (act (code_of at.entry.code.now) at.entry.count at.entry.me.no instr.Count) self.old self.new result }
     {

@@ -4,21 +4,21 @@ use Rattle.proc_machine.specs.View.{control_of, data_with}
 use Rattle.proc_machine.proofs.Calling.{is_deep, is_low, is_full, has_space, called_deep, called_full, called_goes, params_are}
 use Rattle.proc_machine.proofs.execution.Execution.call.Goals as goal
 
-pub returns-then-len-ge256 : goal.returns-then-len-ge256
-returns-then-len-ge256 c =
+pub returns-then-callers-ge256 : goal.returns-then-callers-ge256
+returns-then-callers-ge256 c =
     let e = c.args.self.now in
-    (refl, called_deep e c.args.function c.frame-frame.result _ c.frame-frame.ensures (is_deep e (omega (arith, c.if-len-ge256.true, c.len.ensures.same))))
+    (refl, called_deep e c.args.function c.frame-frame.result _ c.frame-frame.ensures (is_deep e (omega (arith, c.if-callers-ge256.true, c.callers.ensures.same))))
 
 pub returns-then-len-frame-gt-WORDS_LIMIT : goal.returns-then-len-frame-gt-WORDS_LIMIT
 returns-then-len-frame-gt-WORDS_LIMIT c =
     let e = c.args.self.now in
-    (refl, called_full e c.args.function c.frame-frame.result _ c.frame-frame.ensures (is_low e (omega (arith, c.if-len-ge256.false, c.len.ensures.same))) (is_full e c.frame-frame.result.frame_words (omega (arith, c.if-len-frame-gt-WORDS_LIMIT.true, c.len-2.ensures.same))))
+    (refl, called_full e c.args.function c.frame-frame.result _ c.frame-frame.ensures (is_low e (omega (arith, c.if-callers-ge256.false, c.callers.ensures.same))) (is_full e c.frame-frame.result.frame_words (omega (arith, c.if-len-frame-gt-WORDS_LIMIT.true, c.len.ensures.same))))
 
 pub returns : goal.returns
 returns c =
     let e = c.args.self.now in
     let f = c.frame-frame.result in
-    let low = is_low e (omega (arith, c.if-len-ge256.false, c.len.ensures.same)) in
-    let space = has_space e f.frame_words (omega (arith, c.if-len-frame-gt-WORDS_LIMIT.false, c.len-2.ensures.same)) in
-    let few : f.param_words ≤ length e.operands.own = omega (arith, c.requires.some, params_are _ f c.frame-frame.ensures) in
+    let low = is_low e (omega (arith, c.if-callers-ge256.false, c.callers.ensures.same)) in
+    let space = has_space e f.frame_words (omega (arith, c.if-len-frame-gt-WORDS_LIMIT.false, c.len.ensures.same)) in
+    let few : f.param_words ≤ length e.calls.own = omega (arith, c.requires.some, params_are _ f c.frame-frame.ensures) in
     λ events. called_goes e c.args.function f _ c.frame-frame.ensures low space few events ∙ ap (λ x. Done (control_of x) (data_with x events 0)) (sym c.open_frame.ensures)

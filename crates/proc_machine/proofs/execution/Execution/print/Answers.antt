@@ -8,7 +8,7 @@ use Rattle.proc_machine.proofs.execution.Execution.print.Goals as goal
 
 pub printed_length-length-requires-clause-words : goal.printed_length-length-requires-clause-words
 printed_length-length-requires-clause-words c =
-    let own = c.args.self.now.operands.own in
+    let own = c.args.self.now.calls.own in
     let n : c.conversions.result ≡ conversions (unwrap_or (slice_get (code_of c.args.at.code.now).texts c.args.text) []) = c.conversions.ensures ∙ ap (λ o. conversions (unwrap_or o [])) (sym c.text-bytes.ensures) in
     let some : c.conversions.result ≤ length own = omega (arith, n, c.requires.some) in
     let words : (j : ℕ) → j < c.conversions.result → slice_index own j < 2 ^ 32 = λ j h. c.requires.words j (is_below j _ (omega (arith, h, n))) in
@@ -24,7 +24,7 @@ printed_bytes text values values2 text2 h e = ap (printed text) h ∙ ap (λ t. 
 pub returns-then-saturating_add-le-OUTPUT_LIMIT : goal.returns-then-saturating_add-le-OUTPUT_LIMIT
 returns-then-saturating_add-le-OUTPUT_LIMIT c =
     let e = c.args.self.now in
-    let own = e.operands.own in
+    let own = e.calls.own in
     let text = unwrap_or (slice_get (code_of c.args.at.code.now).texts c.args.text) [] in
     let is : c.text-bytes.result.now ≡ text = sym (ap (λ o. unwrap_or o []) c.text-bytes.ensures) in
     let n : c.conversions.result ≡ conversions text = c.conversions.ensures ∙ ap conversions is in
@@ -35,7 +35,7 @@ returns-then-saturating_add-le-OUTPUT_LIMIT c =
 pub returns-else-saturating_add-le-OUTPUT_LIMIT : goal.returns-else-saturating_add-le-OUTPUT_LIMIT
 returns-else-saturating_add-le-OUTPUT_LIMIT c =
     let e = c.args.self.now in
-    let own = e.operands.own in
+    let own = e.calls.own in
     let text = unwrap_or (slice_get (code_of c.args.at.code.now).texts c.args.text) [] in
     let is : c.text-bytes.result.now ≡ text = sym (ap (λ o. unwrap_or o []) c.text-bytes.ensures) in
     let n : c.conversions.result ≡ conversions text = c.conversions.ensures ∙ ap conversions is in
