@@ -3,3 +3,4 @@ pub mod Prints
 pub mod Calling
 pub mod Counts
 pub mod Sending
+pub mod Moving
