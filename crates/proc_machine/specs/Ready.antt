@@ -69,6 +69,11 @@ is_named code (instr.Send words) = nat_le 1 words && nat_le words 8
 is_named code (instr.Print text) = nat_lt text (length code.texts) && nat_le (length (text_at code 0 0 text)) 509
 is_named code i = true
 
+-- the word of the frame whose place it keeps
+abbrev pub reaches : Instr → ℕ
+reaches (instr.LocalArray base len) = base
+reaches i = 0
+
 -- an instruction finds its operands, and room for what it pushes
 pub record IsReady (code : Code) (i : Instr) (e : Execution) : Type 0 where
   pub some : needs code i ≤ length e.calls.own
@@ -76,3 +81,4 @@ pub record IsReady (code : Code) (i : Instr) (e : Execution) : Type 0 where
   pub room : length e.calls.own + adds i ≤ e.calls.height
   pub onward : e.frame.place + 1 < 2 ^ 32
   pub named : IsTrue (is_named code i)
+  pub near : e.frame.base + reaches i < 2 ^ 32

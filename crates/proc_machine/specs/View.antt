@@ -1,12 +1,15 @@
 -- What the definitions of the machine see of an execution.
-use Rattle.std.specs.Prelude.{◌≡◌, ℕ, ◌+◌, ◌-◌, List, [], ◌∷◌, ◌++◌, length, take, drop, reverse, replicate, Option, Some, None, option_map, Result, Ok, Err}
+use Rattle.std.specs.Prelude.{◌≡◌, ℕ, zero, suc, ◌+◌, ◌-◌, ◌<◌, ◌≤◌, ◌^◌, slice_get, List, [], ◌∷◌, ◌++◌, length, take, drop, reverse, replicate, Option, Some, None, option_map, Result, Ok, Err}
 use Rattle.nm_base.specs.declared.kind.Kind.{Kind}
 use Rattle.nm_base.specs.declared.kind.FaultCause.{FaultCause}
 use Rattle.nm_base.specs.Message.{message_of}
 use Rattle.c_tree.specs.State.{State, Done, Stopped, Run}
 use Rattle.c_tree.specs.State as state
 use Rattle.stack_code.specs.declared.code.FunctionFrame.{FunctionFrame}
-use Rattle.stack_code.specs.Machine.{Caller, Control}
+use Rattle.stack_code.specs.declared.instr.Instr.{Instr}
+use Rattle.stack_code.specs.declared.instr.Instr.TheVariants as instr
+use Rattle.stack_code.specs.Code.{FunctionCode, Code}
+use Rattle.stack_code.specs.Machine.{Caller, Control, act}
 use Rattle.proc_machine.specs.declared.callers.Frame.{Frame as KeptFrame}
 use Rattle.proc_machine.specs.declared.callers.Caller.{Caller as KeptCaller}
 use Rattle.proc_machine.specs.declared.execution.Execution.{Execution}
@@ -48,9 +51,59 @@ pub record Pauses (run : Run Control) (e : Execution) (next : Pause) : Type 0 wh
   pub stops : (events : List Kind) → run (data_with e events 0) ≡ Stopped (status_of next) (data_with e events 0)
   pub next_is : pause_by (run (data_with e [] 1)) ≡ Some next
 
-abbrev pub Moves : (Control → Run Control) → Execution → Execution → Option Pause → Type 0
-Moves run old new None = (events : List Kind) → run (control_of old) (data_with old events 0) ≡ Done (control_of new) (data_with new events 0)
-Moves run old new (Some next) = (new ≡ old) × Pauses (run (control_of old)) old next
+-- the topmost operands are words
+abbrev pub Small : ℕ → List ℕ → Type 0
+Small zero operands = Unit {0}
+Small (suc n) [] = Unit {0}
+Small (suc n) (x ∷ xs) = (x < 2 ^ 32) × Small n xs
+
+abbrev pub frame_words_by : Option FunctionCode → ℕ
+frame_words_by None = 0
+frame_words_by (Some f) = f.frame_words
+
+-- its words are within the limit
+abbrev pub FrameFits : Code → KeptFrame → Type 0
+FrameFits code f = f.base + frame_words_by (slice_get code.functions f.function) ≤ 65536
+
+abbrev pub CallersFit : Code → List KeptCaller → Type 0
+CallersFit code [] = Unit {0}
+CallersFit code (k ∷ ks) = FrameFits code k.frame × CallersFit code ks
+
+abbrev pub FramesFit : Code → Execution → Type 0
+FramesFit code e = FrameFits code e.frame × CallersFit code e.calls.callers
+
+-- how many of the topmost operands an instruction leaves as words, apart from those that it only moves
+abbrev pub gives : Instr → ℕ
+gives (instr.Push bits) = 1
+gives (instr.GlobalArray base len) = 2
+gives (instr.LocalArray base len) = 2
+gives (instr.ParamArray slot) = 2
+gives instr.Load = 1
+gives instr.Store = 1
+gives (instr.Unary op of) = 1
+gives (instr.Binary op of) = 1
+gives instr.Return = 1
+gives (instr.Send words) = 1
+gives instr.Receive = 1
+gives instr.Word = 1
+gives instr.Words = 1
+gives instr.From = 1
+gives instr.Via = 1
+gives instr.SelfNo = 1
+gives instr.Count = 1
+gives (instr.Print text) = 1
+gives i = 0
+
+-- what stays so that the next instruction can be done
+pub record Keeps (code : Code) (i : Instr) (old new : Execution) : Type 0 where
+  pub small : Small (gives i) new.calls.own
+  pub height : new.calls.height ≡ old.calls.height
+  pub frames : FramesFit code old → FramesFit code new
+
+abbrev pub Moves : Code → ℕ → ℕ → Instr → Execution → Execution → Option Pause → Type 0
+Moves code count me i old new None =
+    ((events : List Kind) → act code count me i (control_of old) (data_with old events 0) ≡ Done (control_of new) (data_with new events 0)) × Keeps code i old new
+Moves code count me i old new (Some next) = (new ≡ old) × Pauses (act code count me i (control_of old)) old next
 
 -- ---- changes
 

@@ -2,7 +2,6 @@
 
 ghost use Rattle.std.specs.Prelude.{◌≡◌, ℕ, ◌+◌, ◌-◌, ◌<◌, ◌≤◌, ◌^◌, ◌∷◌, length, drop, slice_index, Some, None};
 ghost use Rattle.stack_code.specs.declared.instr.Instr.TheVariants as instr;
-ghost use Rattle.stack_code.specs.Machine.{act};
 ghost use Rattle.stack_code.specs.View.{code_of};
 ghost use Rattle.proc_machine.specs.Ready.{IsReady};
 ghost use Rattle.proc_machine.specs.View.{Moves, opened};
@@ -20,7 +19,7 @@ impl Execution {
     /// Line.
     pub(crate) fn at_line(&mut self, at: Setting<'_>, line: u32) -> Option<Pause>
         requires { IsReady (code_of at.code.now) (instr.Line line) self.old }
-        ensures { Moves (act (code_of at.entry.code.now) at.entry.count at.entry.me.no (instr.Line line)) self.old self.new result }
+        ensures { Moves (code_of at.entry.code.now) at.entry.count at.entry.me.no (instr.Line line) self.old self.new result }
     {
         Some(Pause::Line { line })
     }
@@ -28,7 +27,7 @@ impl Execution {
     /// Call.
     pub(crate) fn call(&mut self, at: Setting<'_>, function: u32) -> Option<Pause>
         requires { IsReady (code_of at.code.now) (instr.Call function) self.old }
-        ensures { Moves (act (code_of at.entry.code.now) at.entry.count at.entry.me.no (instr.Call function)) self.old self.new result }
+        ensures { Moves (code_of at.entry.code.now) at.entry.count at.entry.me.no (instr.Call function) self.old self.new result }
     {
         let frame = at.code.frame(function);
         if self.calls.callers() + 1 >= 256 {
@@ -72,7 +71,7 @@ impl Execution {
     /// Return.
     pub(crate) fn give_back(&mut self, at: Setting<'_>) -> Option<Pause>
         requires { IsReady (code_of at.code.now) instr.Return self.old }
-        ensures { Moves (act (code_of at.entry.code.now) at.entry.count at.entry.me.no instr.Return) self.old self.new result }
+        ensures { Moves (code_of at.entry.code.now) at.entry.count at.entry.me.no instr.Return self.old self.new result }
     {
         let value = self.calls.top(0);
         match self.calls.leave() {
@@ -92,7 +91,7 @@ impl Execution {
     /// Word.
     pub(crate) fn letter_word(&mut self, at: Setting<'_>) -> Option<Pause>
         requires { IsReady (code_of at.code.now) instr.Word self.old }
-        ensures { Moves (act (code_of at.entry.code.now) at.entry.count at.entry.me.no instr.Word) self.old self.new result }
+        ensures { Moves (code_of at.entry.code.now) at.entry.count at.entry.me.no instr.Word self.old self.new result }
     {
         let i = self.calls.top(0);
         let value = match &self.letter {
@@ -105,7 +104,7 @@ impl Execution {
     /// Words.
     pub(crate) fn letter_words(&mut self, at: Setting<'_>) -> Option<Pause>
         requires { IsReady (code_of at.code.now) instr.Words self.old }
-        ensures { Moves (act (code_of at.entry.code.now) at.entry.count at.entry.me.no instr.Words) self.old self.new result }
+        ensures { Moves (code_of at.entry.code.now) at.entry.count at.entry.me.no instr.Words self.old self.new result }
     {
         let value = match &self.letter {
             None => Err(FaultCause::NoLetter),
@@ -117,7 +116,7 @@ impl Execution {
     /// From.
     pub(crate) fn letter_from(&mut self, at: Setting<'_>) -> Option<Pause>
         requires { IsReady (code_of at.code.now) instr.From self.old }
-        ensures { Moves (act (code_of at.entry.code.now) at.entry.count at.entry.me.no instr.From) self.old self.new result }
+        ensures { Moves (code_of at.entry.code.now) at.entry.count at.entry.me.no instr.From self.old self.new result }
     {
         let value = match &self.letter {
             None => Err(FaultCause::NoLetter),
@@ -129,7 +128,7 @@ impl Execution {
     /// Via.
     pub(crate) fn letter_via(&mut self, at: Setting<'_>) -> Option<Pause>
         requires { IsReady (code_of at.code.now) instr.Via self.old }
-        ensures { Moves (act (code_of at.entry.code.now) at.entry.count at.entry.me.no instr.Via) self.old self.new result }
+        ensures { Moves (code_of at.entry.code.now) at.entry.count at.entry.me.no instr.Via self.old self.new result }
     {
         let value = match &self.letter {
             None => Err(FaultCause::NoLetter),

@@ -1,6 +1,5 @@
 //! The next instruction, whatever it is.
 
-ghost use Rattle.stack_code.specs.Machine.{act};
 ghost use Rattle.stack_code.specs.View.{code_of};
 ghost use Rattle.proc_machine.specs.Ready.{IsReady};
 ghost use Rattle.proc_machine.specs.View.{Moves};
@@ -13,7 +12,7 @@ impl Execution {
     /// One instruction: the execution goes on, or stands before an event.
     pub(crate) fn execute(&mut self, at: Setting<'_>, instr: Instr) -> Option<Pause>
         requires { IsReady (code_of at.code.now) instr self.old }
-        ensures { Moves (act (code_of at.entry.code.now) at.entry.count at.entry.me.no instr) self.old self.new result }
+        ensures { Moves (code_of at.entry.code.now) at.entry.count at.entry.me.no instr self.old self.new result }
     {
         match instr {
             Instr::Line(line) => self.at_line(at, line),

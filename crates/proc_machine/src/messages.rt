@@ -2,7 +2,7 @@
 
 ghost use Rattle.std.specs.Prelude.{◌≡◌, ℕ, ◌+◌, ◌-◌, ◌<◌, ◌≤◌, ◌^◌, ◌∷◌, length, drop, slice_index, nat_lt, ◌&&◌, Some, None};
 ghost use Rattle.stack_code.specs.declared.instr.Instr.TheVariants as instr;
-ghost use Rattle.stack_code.specs.Machine.{act, conversions};
+ghost use Rattle.stack_code.specs.Machine.{conversions};
 ghost use Rattle.stack_code.specs.View.{code_of};
 ghost use Rattle.proc_machine.specs.Ready.{IsReady};
 ghost use Rattle.proc_machine.specs.View.{Moves};
@@ -19,7 +19,7 @@ impl Execution {
     /// Send.
     pub(crate) fn send(&mut self, at: Setting<'_>, words: u32) -> Option<Pause>
         requires { IsReady (code_of at.code.now) (instr.Send words) self.old }
-        ensures { Moves (act (code_of at.entry.code.now) at.entry.count at.entry.me.no (instr.Send words)) self.old self.new result }
+        ensures { Moves (code_of at.entry.code.now) at.entry.count at.entry.me.no (instr.Send words) self.old self.new result }
     {
         let dest = self.calls.top(words as usize + 1);
         let chan = self.calls.top(words as usize);
@@ -35,7 +35,7 @@ impl Execution {
     /// Receive.
     pub(crate) fn receive(&mut self, at: Setting<'_>) -> Option<Pause>
         requires { IsReady (code_of at.code.now) instr.Receive self.old }
-        ensures { Moves (act (code_of at.entry.code.now) at.entry.count at.entry.me.no instr.Receive) self.old self.new result }
+        ensures { Moves (code_of at.entry.code.now) at.entry.count at.entry.me.no instr.Receive self.old self.new result }
     {
         let set = self.calls.top(0) as u32;
         if set == 0 {
@@ -50,7 +50,7 @@ impl Execution {
     /// Print.
     pub(crate) fn print(&mut self, at: Setting<'_>, text: u32) -> Option<Pause>
         requires { IsReady (code_of at.code.now) (instr.Print text) self.old }
-        ensures { Moves (act (code_of at.entry.code.now) at.entry.count at.entry.me.no (instr.Print text)) self.old self.new result }
+        ensures { Moves (code_of at.entry.code.now) at.entry.count at.entry.me.no (instr.Print text) self.old self.new result }
     {
         let bytes = at.code.text(text);
         let values = self.calls.last(conversions(bytes));

@@ -2,7 +2,6 @@
 
 ghost use Rattle.std.specs.Prelude.{◌≡◌, ℕ, ◌+◌, ◌-◌, ◌<◌, ◌≤◌, ◌^◌, ◌∷◌, length, drop, Some, None};
 ghost use Rattle.stack_code.specs.declared.instr.Instr.TheVariants as instr;
-ghost use Rattle.stack_code.specs.Machine.{act};
 ghost use Rattle.stack_code.specs.View.{code_of};
 ghost use Rattle.proc_machine.specs.Ready.{IsReady};
 ghost use Rattle.proc_machine.specs.View.{Moves, onward, given};
@@ -36,7 +35,7 @@ impl Execution {
     /// Push.
     pub(crate) fn push_bits(&mut self, at: Setting<'_>, bits: u32) -> Option<Pause>
         requires { IsReady (code_of at.code.now) (instr.Push bits) self.old }
-        ensures { Moves (act (code_of at.entry.code.now) at.entry.count at.entry.me.no (instr.Push bits)) self.old self.new result }
+        ensures { Moves (code_of at.entry.code.now) at.entry.count at.entry.me.no (instr.Push bits) self.old self.new result }
     {
         self.give(0, Ok(u64::from(bits)))
     }
@@ -44,7 +43,7 @@ impl Execution {
     /// Load.
     pub(crate) fn load(&mut self, at: Setting<'_>) -> Option<Pause>
         requires { IsReady (code_of at.code.now) instr.Load self.old }
-        ensures { Moves (act (code_of at.entry.code.now) at.entry.count at.entry.me.no instr.Load) self.old self.new result }
+        ensures { Moves (code_of at.entry.code.now) at.entry.count at.entry.me.no instr.Load self.old self.new result }
     {
         let word = self.words.get(self.calls.top(0));
         self.give(1, Ok(u64::from(word)))
@@ -53,7 +52,7 @@ impl Execution {
     /// Store.
     pub(crate) fn store(&mut self, at: Setting<'_>) -> Option<Pause>
         requires { IsReady (code_of at.code.now) instr.Store self.old }
-        ensures { Moves (act (code_of at.entry.code.now) at.entry.count at.entry.me.no instr.Store) self.old self.new result }
+        ensures { Moves (code_of at.entry.code.now) at.entry.count at.entry.me.no instr.Store self.old self.new result }
     {
         let word = self.calls.top(0);
         self.words.set(self.calls.top(1), word as u32);
@@ -63,7 +62,7 @@ impl Execution {
     /// Unary.
     pub(crate) fn unary(&mut self, at: Setting<'_>, op: UnaryOp, of: Ctype) -> Option<Pause>
         requires { IsReady (code_of at.code.now) (instr.Unary op of) self.old }
-        ensures { Moves (act (code_of at.entry.code.now) at.entry.count at.entry.me.no (instr.Unary op of)) self.old self.new result }
+        ensures { Moves (code_of at.entry.code.now) at.entry.count at.entry.me.no (instr.Unary op of) self.old self.new result }
     {
         let value = apply_unary(op, of, self.calls.top(0) as u32);
         self.give(1, wide(value))
@@ -72,7 +71,7 @@ impl Execution {
     /// Drop.
     pub(crate) fn drop_top(&mut self, at: Setting<'_>) -> Option<Pause>
         requires { IsReady (code_of at.code.now) instr.Drop self.old }
-        ensures { Moves (act (code_of at.entry.code.now) at.entry.count at.entry.me.no instr.Drop) self.old self.new result }
+        ensures { Moves (code_of at.entry.code.now) at.entry.count at.entry.me.no instr.Drop self.old self.new result }
     {
         self.calls.discard(1);
         self.frame.place += 1;
@@ -82,7 +81,7 @@ impl Execution {
     /// Dup.
     pub(crate) fn duplicate(&mut self, at: Setting<'_>) -> Option<Pause>
         requires { IsReady (code_of at.code.now) instr.Dup self.old }
-        ensures { Moves (act (code_of at.entry.code.now) at.entry.count at.entry.me.no instr.Dup) self.old self.new result }
+        ensures { Moves (code_of at.entry.code.now) at.entry.count at.entry.me.no instr.Dup self.old self.new result }
     {
         let value = self.calls.top(0);
         self.give(0, Ok(value))
@@ -91,7 +90,7 @@ impl Execution {
     /// Swap.
     pub(crate) fn swap(&mut self, at: Setting<'_>) -> Option<Pause>
         requires { IsReady (code_of at.code.now) instr.Swap self.old }
-        ensures { Moves (act (code_of at.entry.code.now) at.entry.count at.entry.me.no instr.Swap) self.old self.new result }
+        ensures { Moves (code_of at.entry.code.now) at.entry.count at.entry.me.no instr.Swap self.old self.new result }
     {
         let first = self.calls.top(0);
         let second = self.calls.top(1);
@@ -103,7 +102,7 @@ impl Execution {
     /// GlobalPlace.
     pub(crate) fn global_place(&mut self, at: Setting<'_>, slot: u32) -> Option<Pause>
         requires { IsReady (code_of at.code.now) (instr.GlobalPlace slot) self.old }
-        ensures { Moves (act (code_of at.entry.code.now) at.entry.count at.entry.me.no (instr.GlobalPlace slot)) self.old self.new result }
+        ensures { Moves (code_of at.entry.code.now) at.entry.count at.entry.me.no (instr.GlobalPlace slot) self.old self.new result }
     {
         self.give(0, Ok(u64::from(slot)))
     }
@@ -111,7 +110,7 @@ impl Execution {
     /// LocalPlace.
     pub(crate) fn local_place(&mut self, at: Setting<'_>, slot: u32) -> Option<Pause>
         requires { IsReady (code_of at.code.now) (instr.LocalPlace slot) self.old }
-        ensures { Moves (act (code_of at.entry.code.now) at.entry.count at.entry.me.no (instr.LocalPlace slot)) self.old self.new result }
+        ensures { Moves (code_of at.entry.code.now) at.entry.count at.entry.me.no (instr.LocalPlace slot) self.old self.new result }
     {
         self.give(0, Ok(self.place_of(slot)))
     }
@@ -119,7 +118,7 @@ impl Execution {
     /// GlobalAt.
     pub(crate) fn global_at(&mut self, at: Setting<'_>, base: u32, len: u32) -> Option<Pause>
         requires { IsReady (code_of at.code.now) (instr.GlobalAt base len) self.old }
-        ensures { Moves (act (code_of at.entry.code.now) at.entry.count at.entry.me.no (instr.GlobalAt base len)) self.old self.new result }
+        ensures { Moves (code_of at.entry.code.now) at.entry.count at.entry.me.no (instr.GlobalAt base len) self.old self.new result }
     {
         let i = self.calls.top(0);
         self.give(1, element(u64::from(base), len, i))
@@ -128,7 +127,7 @@ impl Execution {
     /// LocalAt.
     pub(crate) fn local_at(&mut self, at: Setting<'_>, base: u32, len: u32) -> Option<Pause>
         requires { IsReady (code_of at.code.now) (instr.LocalAt base len) self.old }
-        ensures { Moves (act (code_of at.entry.code.now) at.entry.count at.entry.me.no (instr.LocalAt base len)) self.old self.new result }
+        ensures { Moves (code_of at.entry.code.now) at.entry.count at.entry.me.no (instr.LocalAt base len) self.old self.new result }
     {
         let i = self.calls.top(0);
         let place = self.place_of(base);
@@ -138,7 +137,7 @@ impl Execution {
     /// ParamAt.
     pub(crate) fn param_at(&mut self, at: Setting<'_>, slot: u32) -> Option<Pause>
         requires { IsReady (code_of at.code.now) (instr.ParamAt slot) self.old }
-        ensures { Moves (act (code_of at.entry.code.now) at.entry.count at.entry.me.no (instr.ParamAt slot)) self.old self.new result }
+        ensures { Moves (code_of at.entry.code.now) at.entry.count at.entry.me.no (instr.ParamAt slot) self.old self.new result }
     {
         let place = self.words.get(self.place_of(slot));
         let len = self.words.get(self.place_of(slot) + 1);
@@ -149,7 +148,7 @@ impl Execution {
     /// GlobalArray.
     pub(crate) fn global_array(&mut self, at: Setting<'_>, base: u32, len: u32) -> Option<Pause>
         requires { IsReady (code_of at.code.now) (instr.GlobalArray base len) self.old }
-        ensures { Moves (act (code_of at.entry.code.now) at.entry.count at.entry.me.no (instr.GlobalArray base len)) self.old self.new result }
+        ensures { Moves (code_of at.entry.code.now) at.entry.count at.entry.me.no (instr.GlobalArray base len) self.old self.new result }
     {
         self.calls.push(u64::from(base));
         self.give(0, Ok(u64::from(len)))
@@ -158,7 +157,7 @@ impl Execution {
     /// LocalArray.
     pub(crate) fn local_array(&mut self, at: Setting<'_>, base: u32, len: u32) -> Option<Pause>
         requires { IsReady (code_of at.code.now) (instr.LocalArray base len) self.old }
-        ensures { Moves (act (code_of at.entry.code.now) at.entry.count at.entry.me.no (instr.LocalArray base len)) self.old self.new result }
+        ensures { Moves (code_of at.entry.code.now) at.entry.count at.entry.me.no (instr.LocalArray base len) self.old self.new result }
     {
         let place = self.place_of(base);
         self.calls.push(place);
@@ -168,7 +167,7 @@ impl Execution {
     /// ParamArray.
     pub(crate) fn param_array(&mut self, at: Setting<'_>, slot: u32) -> Option<Pause>
         requires { IsReady (code_of at.code.now) (instr.ParamArray slot) self.old }
-        ensures { Moves (act (code_of at.entry.code.now) at.entry.count at.entry.me.no (instr.ParamArray slot)) self.old self.new result }
+        ensures { Moves (code_of at.entry.code.now) at.entry.count at.entry.me.no (instr.ParamArray slot) self.old self.new result }
     {
         let place = self.words.get(self.place_of(slot));
         let len = self.words.get(self.place_of(slot) + 1);
@@ -179,7 +178,7 @@ impl Execution {
     /// Binary.
     pub(crate) fn binary(&mut self, at: Setting<'_>, op: BinaryOp, of: Ctype) -> Option<Pause>
         requires { IsReady (code_of at.code.now) (instr.Binary op of) self.old }
-        ensures { Moves (act (code_of at.entry.code.now) at.entry.count at.entry.me.no (instr.Binary op of)) self.old self.new result }
+        ensures { Moves (code_of at.entry.code.now) at.entry.count at.entry.me.no (instr.Binary op of) self.old self.new result }
     {
         let left = self.calls.top(1) as u32;
         let right = self.calls.top(0) as u32;
@@ -189,7 +188,7 @@ impl Execution {
     /// Jump.
     pub(crate) fn jump(&mut self, at: Setting<'_>, target: u32) -> Option<Pause>
         requires { IsReady (code_of at.code.now) (instr.Jump target) self.old }
-        ensures { Moves (act (code_of at.entry.code.now) at.entry.count at.entry.me.no (instr.Jump target)) self.old self.new result }
+        ensures { Moves (code_of at.entry.code.now) at.entry.count at.entry.me.no (instr.Jump target) self.old self.new result }
     {
         self.frame.place = target;
         None
@@ -198,7 +197,7 @@ impl Execution {
     /// JumpZero.
     pub(crate) fn jump_zero(&mut self, at: Setting<'_>, target: u32) -> Option<Pause>
         requires { IsReady (code_of at.code.now) (instr.JumpZero target) self.old }
-        ensures { Moves (act (code_of at.entry.code.now) at.entry.count at.entry.me.no (instr.JumpZero target)) self.old self.new result }
+        ensures { Moves (code_of at.entry.code.now) at.entry.count at.entry.me.no (instr.JumpZero target) self.old self.new result }
     {
         let value = self.calls.top(0);
         self.calls.discard(1);
@@ -213,7 +212,7 @@ impl Execution {
     /// Zero.
     pub(crate) fn zero(&mut self, at: Setting<'_>, base: u32, len: u32) -> Option<Pause>
         requires { IsReady (code_of at.code.now) (instr.Zero base len) self.old }
-        ensures { Moves (act (code_of at.entry.code.now) at.entry.count at.entry.me.no (instr.Zero base len)) self.old self.new result }
+        ensures { Moves (code_of at.entry.code.now) at.entry.count at.entry.me.no (instr.Zero base len) self.old self.new result }
     {
         let place = self.place_of(base);
         self.words.clear(place, len);
@@ -224,7 +223,7 @@ impl Execution {
     /// SelfNo.
     pub(crate) fn self_no(&mut self, at: Setting<'_>) -> Option<Pause>
         requires { IsReady (code_of at.code.now) instr.SelfNo self.old }
-        ensures { Moves (act (code_of at.entry.code.now) at.entry.count at.entry.me.no instr.SelfNo) self.old self.new result }
+        ensures { Moves (code_of at.entry.code.now) at.entry.count at.entry.me.no instr.SelfNo self.old self.new result }
     {
         self.give(0, Ok(u64::from(at.me.no)))
     }
@@ -232,7 +231,7 @@ impl Execution {
     /// Count.
     pub(crate) fn count(&mut self, at: Setting<'_>) -> Option<Pause>
         requires { IsReady (code_of at.code.now) instr.Count self.old }
-        ensures { Moves (act (code_of at.entry.code.now) at.entry.count at.entry.me.no instr.Count) self.old self.new result }
+        ensures { Moves (code_of at.entry.code.now) at.entry.count at.entry.me.no instr.Count self.old self.new result }
     {
         self.give(0, Ok(u64::from(at.count)))
     }
