@@ -1,6 +1,6 @@
 -- A call: it faults, or makes a frame.
 use Rattle.std.proofs.Common.{◌≡◌, ℕ, zero, suc, ◌+◌, ◌-◌, ◌<◌, ◌≤◌, ◌^◌, Bool, true, false, List, [], ◌∷◌, ◌++◌, length, take, drop, reverse, replicate, Option, Some, None, refl, sym, ap, ◌∙◌, subst, arith, rules, tests, append_assoc, length-append}
-use Rattle.std.specs.Prelude.{nat_lt, nat_le, option_map}
+use Rattle.std.specs.Prelude.{nat_lt, nat_le, option_map, slice_get}
 use Rattle.std.proofs.lemmas.List.{append-nil}
 use Rattle.std.proofs.lemmas.Grind.{reverse_onto}
 use Rattle.std.proofs.lemmas.Bool.{ltb-true, ltb-false, leb-true, leb-false}
@@ -9,7 +9,8 @@ use Rattle.nm_base.specs.declared.kind.FaultCause.TheVariants.{DepthFull, DataFu
 use Rattle.c_tree.specs.State.{State, Outcome, Done, Stopped, Able, Run, then_on}
 use Rattle.c_tree.specs.Expr.{demand}
 use Rattle.stack_code.specs.declared.code.FunctionFrame.{FunctionFrame}
-use Rattle.stack_code.specs.Code.{FunctionCode}
+use Rattle.stack_code.specs.declared.instr.Instr.TheVariants as instr
+use Rattle.stack_code.specs.Code.{FunctionCode, Code}
 use Rattle.stack_code.specs.Frame.{frame_of}
 use Rattle.stack_code.specs.Machine.{Control, popped, called, new_frame}
 use Rattle.proc_machine.specs.declared.execution.Execution.{Execution}
@@ -18,7 +19,7 @@ use Rattle.proc_machine.specs.declared.pause.Pause.{Pause}
 use Rattle.proc_machine.specs.declared.pause.Pause.TheVariants.{Fault}
 use Rattle.proc_machine.specs.Stacked.{upper, lower}
 use Rattle.proc_machine.specs.Pauses.{pause_by}
-use Rattle.proc_machine.specs.View.{callers_of, frames_in, control_of, data_with, Pauses, opened}
+use Rattle.proc_machine.specs.View.{callers_of, frames_in, control_of, data_with, Pauses, opened, frame_words_by, Keeps}
 use Rattle.proc_machine.specs.Ready.{param_words_by}
 use Rattle.proc_machine.proofs.Upper.{take_front, drop_front}
 
@@ -150,3 +151,13 @@ module _ (e : Execution) where
 pub params_are : (o : Option FunctionCode) (f : FunctionFrame) → option_map frame_of o ≡ Some f → param_words_by o ≡ f.param_words
 params_are None f h = cc
 params_are (Some g) f h = let same : g.param_words ≡ f.param_words = cc in same
+
+pub size_is : (o : Option FunctionCode) (f : FunctionFrame) → option_map frame_of o ≡ Some f → frame_words_by o ≡ f.frame_words
+size_is None f h = cc
+size_is (Some g) f h = let same : g.frame_words ≡ f.frame_words = cc in same
+
+pub call_keeps : (code : Code) (number : ℕ) (f : FunctionFrame) (old new : Execution) → new ≡ opened number f old → option_map frame_of (slice_get code.functions number) ≡ Some f → length old.words + f.frame_words ≤ 65536 → Keeps code (instr.Call number) old new
+call_keeps code number f old new e is fits =
+    let size = size_is (slice_get code.functions number) f is in
+    let inner : length old.words + frame_words_by (slice_get code.functions number) ≤ 65536 = omega (arith, size, fits) in
+    subst (λ x. Keeps code (instr.Call number) old x) (sym e) (record { small = tt; height = refl; frames = λ h. (inner, (h.0, h.1)) })

@@ -1,6 +1,6 @@
 //! Instructions on calls, letters and output.
 
-ghost use Rattle.std.specs.Prelude.{◌≡◌, ℕ, ◌+◌, ◌-◌, ◌<◌, ◌≤◌, ◌^◌, ◌∷◌, length, drop, slice_index, Some, None};
+ghost use Rattle.std.specs.Prelude.{◌≡◌, ℕ, ◌+◌, ◌-◌, ◌<◌, ◌≤◌, ◌^◌, ◌∷◌, length, drop, slice_index, Some, None, IfOk};
 ghost use Rattle.stack_code.specs.declared.instr.Instr.TheVariants as instr;
 ghost use Rattle.stack_code.specs.View.{code_of};
 ghost use Rattle.proc_machine.specs.Ready.{IsReady};
@@ -140,14 +140,16 @@ impl Execution {
 
 /// How many words a letter has.
 fn letter_length(letter: &Letter) -> u64
-    ensures { result ≡ length (message_of letter.now).words }
+    ensures same { result ≡ length (message_of letter.now).words }
+    ensures within { result ≤ 8 }
 {
     u64::from(letter.len).min(8)
 }
 
 /// A word of a letter, where there is one.
 fn letter_word(letter: &Letter, i: u64) -> Result<u64, FaultCause>
-    ensures { result ≡ word_in (message_of letter.now) i }
+    ensures same { result ≡ word_in (message_of letter.now) i }
+    ensures within { IfOk result (λ word. word < 2 ^ 32) }
 {
     if i < letter_length(letter) {
         Ok(u64::from(letter.words[i as usize]))
