@@ -4,3 +4,5 @@ pub mod Calling
 pub mod Counts
 pub mod Sending
 pub mod Moving
+pub mod OfKinds
+pub mod Advancing

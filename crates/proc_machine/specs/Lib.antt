@@ -3,3 +3,4 @@ pub mod Pauses
 pub mod Ready
 pub mod Stacked
 pub mod View
+pub mod Sound

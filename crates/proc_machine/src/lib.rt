@@ -11,6 +11,7 @@ mod messages;
 mod operands;
 mod pause;
 mod printing;
+mod run;
 mod scratch;
 mod step;
 mod words;

@@ -1,0 +1,5 @@
+use Rattle.proc_machine.proofs.Advancing
+use Rattle.proc_machine.proofs.execution.Execution.step.Goals as goal
+
+pub returns : goal.returns
+returns c = ?
