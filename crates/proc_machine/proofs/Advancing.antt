@@ -33,15 +33,15 @@ never_done (suc n) kind s d u e = cc
 popped_rest : (n : ℕ) (xs words : List ℕ) → n ≤ length xs → (popped n xs words).1 ≡ drop n xs
 popped_rest n xs words h = ap (λ (p : List ℕ × List ℕ). p.1) (popped_are n xs words h)
 
-length_values : (n : ℕ) → length (values n) ≡ n
+pub length_values : (n : ℕ) → length (values n) ≡ n
 length_values zero = refl
 length_values (suc n) = ap suc (length_values n)
 
-twice_is : (ks : List Operand) (go : ℕ → List Operand → Bool) → ((n : ℕ) → IsTrue (twice ks (go n))) → (k : Operand) × (s : List Operand) × (ks ≡ k ∷ s) × ((n : ℕ) → IsTrue (go n (k ∷ k ∷ s)))
+pub twice_is : (ks : List Operand) (go : ℕ → List Operand → Bool) → ((n : ℕ) → IsTrue (twice ks (go n))) → (k : Operand) × (s : List Operand) × (ks ≡ k ∷ s) × ((n : ℕ) → IsTrue (go n (k ∷ k ∷ s)))
 twice_is [] go h = let no : false ≡ true = h 0 in cc
 twice_is (k ∷ s) go h = (k, s, refl, λ n. (both (is_single k) (go n (k ∷ k ∷ s)) (h n)).1)
 
-swapped_is : (ks : List Operand) (go : ℕ → List Operand → Bool) → ((n : ℕ) → IsTrue (swapped ks (go n))) → (a : Operand) × (b : Operand) × (s : List Operand) × (ks ≡ a ∷ b ∷ s) × ((n : ℕ) → IsTrue (go n (b ∷ a ∷ s)))
+pub swapped_is : (ks : List Operand) (go : ℕ → List Operand → Bool) → ((n : ℕ) → IsTrue (swapped ks (go n))) → (a : Operand) × (b : Operand) × (s : List Operand) × (ks ≡ a ∷ b ∷ s) × ((n : ℕ) → IsTrue (go n (b ∷ a ∷ s)))
 swapped_is [] go h = let no : false ≡ true = h 0 in cc
 swapped_is (k ∷ []) go h = let no : false ≡ true = h 0 in cc
 swapped_is (a ∷ b ∷ s) go h = (a, b, s, refl, λ n. (both (is_single a && is_single b) (go n (b ∷ a ∷ s)) (h n)).1)

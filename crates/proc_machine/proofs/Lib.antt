@@ -6,3 +6,4 @@ pub mod Sending
 pub mod Moving
 pub mod OfKinds
 pub mod Advancing
+pub mod Readiness

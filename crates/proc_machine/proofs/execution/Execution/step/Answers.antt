@@ -1,4 +1,4 @@
-use Rattle.proc_machine.proofs.Advancing
+use Rattle.proc_machine.proofs.Readiness
 use Rattle.proc_machine.proofs.execution.Execution.step.Goals as goal
 
 pub returns : goal.returns
