@@ -7,3 +7,4 @@ pub mod Moving
 pub mod OfKinds
 pub mod Advancing
 pub mod Readiness
+pub mod Stepping

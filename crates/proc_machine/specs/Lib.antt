@@ -4,3 +4,4 @@ pub mod Ready
 pub mod Stacked
 pub mod View
 pub mod Sound
+pub mod Run
