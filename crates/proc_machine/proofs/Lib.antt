@@ -8,3 +8,4 @@ pub mod OfKinds
 pub mod Advancing
 pub mod Readiness
 pub mod Stepping
+pub mod Running

@@ -28,7 +28,7 @@ impl Execution {
         ensures reaches { (events : List Kind) → Reaches (code_of at.entry.code.now) at.entry.count at.entry.me.no (control_of self.old) (data_with self.old events 0) (control_of self.new) (data_with self.new events 0) }
         ensures stands { StandsBefore (code_of at.entry.code.now) at.entry.count at.entry.me.no self.new result }
     {
-        loop {
+        'steps: loop {
             if let Some(pause) = self.step(at) {
                 return pause;
             }
