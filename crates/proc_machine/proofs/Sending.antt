@@ -88,12 +88,12 @@ module _ (e : Execution) where
     pub send_pauses : test ≡ true → Pauses sending e pause.Send
     send_pauses h =
         subst (λ run. Pauses run e pause.Send) (sym sending_is)
-        (subst (λ b. Pauses (push c (drop (words + 2) own) (sent_if b dest chan whole)) e pause.Send) (sym h) (record { stops = λ events. refl; next_is = refl }))
+        (subst (λ b. Pauses (push c (drop (words + 2) own) (sent_if b dest chan whole)) e pause.Send) (sym h) (record { stops = λ events. refl; next_is = λ events. refl }))
 
     pub send_faults : test ≡ false → Pauses sending e (pause.Fault Address)
     send_faults h =
         subst (λ run. Pauses run e (pause.Fault Address)) (sym sending_is)
-        (subst (λ b. Pauses (push c (drop (words + 2) own) (sent_if b dest chan whole)) e (pause.Fault Address)) (sym h) (record { stops = λ events. refl; next_is = refl }))
+        (subst (λ b. Pauses (push c (drop (words + 2) own) (sent_if b dest chan whole)) e (pause.Fault Address)) (sym h) (record { stops = λ events. refl; next_is = λ events. refl }))
 
   module _ (text : List ℕ) (n : ℕ) (few : n ≤ length own) where
     abbrev bytes : List ℕ
@@ -113,7 +113,7 @@ module _ (e : Execution) where
         subst (λ run. Pauses run e pause.Print) (sym printing_is)
         (record {
           stops = λ events. ap (λ b. push c (drop n own) (printed_if b bytes) (data_with e events 0)) h;
-          next_is = ap (λ b. pause_by (push c (drop n own) (printed_if b bytes) (data_with e [] 1))) h;
+          next_is = λ events. ap (λ b. pause_by (push c (drop n own) (printed_if b bytes) (data_with e events 1))) h;
         })
 
     pub print_faults : room ≡ false → Pauses printing e (pause.Fault OutputFull)
@@ -121,7 +121,7 @@ module _ (e : Execution) where
         subst (λ run. Pauses run e (pause.Fault OutputFull)) (sym printing_is)
         (record {
           stops = λ events. ap (λ b. push c (drop n own) (printed_if b bytes) (data_with e events 0)) h;
-          next_is = ap (λ b. pause_by (push c (drop n own) (printed_if b bytes) (data_with e [] 1))) h;
+          next_is = λ events. ap (λ b. pause_by (push c (drop n own) (printed_if b bytes) (data_with e events 1))) h;
         })
 
 pub word_bounds : (words : ℕ) → IsTrue (nat_le 1 words && nat_le words 8) → (1 ≤ words) × (words ≤ 8)

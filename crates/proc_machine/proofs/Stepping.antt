@@ -18,10 +18,10 @@ use Rattle.proc_machine.specs.declared.execution.Execution.{Execution}
 use Rattle.proc_machine.specs.declared.pause.Pause.{Pause}
 use Rattle.proc_machine.specs.Stacked.{upper, lower}
 use Rattle.proc_machine.specs.Pauses.{status_of, pause_by}
-use Rattle.proc_machine.specs.View.{callers_of, control_of, data_with, Pauses, Keeps, Moves}
+use Rattle.proc_machine.specs.View.{callers_of, control_of, data_with, Pauses, Keeps, Moves, waits}
 use Rattle.proc_machine.specs.Sound.{IsSoundAt, Holds}
 use Rattle.proc_machine.specs.Ready.{IsReady}
-use Rattle.proc_machine.specs.Run.{Reaches, StandsBefore, is_line, is_line_at, way, GoesOn, Steps}
+use Rattle.proc_machine.specs.Run.{Reaches, StandsBefore, waits_at, is_line, is_line_at, way, GoesOn, Steps}
 use Rattle.proc_machine.proofs.Advancing.{act_sound}
 use Rattle.proc_machine.proofs.Readiness.{there, is_there, ready, it_follows, params_are}
 
@@ -81,10 +81,11 @@ module _ (code : Code) (count me : ℕ) (old new : Execution) (i : Instr) (is : 
   step_is : (s : State) → step code count me c s ≡ shown code count me c (act code count me i c s)
   step_is s = ap (λ q. shown code count me c (act_if_any code count me q c s)) at_x ∙ ap (λ j. shown code count me c (act code count me j c s)) same_i
 
-  pub stands : (next : Pause) → Pauses (act code count me i c) old next → StandsBefore code count me old next
-  stands next p = record {
+  pub stands : (next : Pause) → IsTrue (waits i next) → Pauses (act code count me i c) old next → StandsBefore code count me old next
+  stands next w p = record {
     stops = λ events. step_is (data_with old events 0) ∙ ap (shown code count me c) (p.stops events);
-    next_is = ap pause_by (step_is (data_with old [] 1)) ∙ by_shown code count me c (act code count me i c (data_with old [] 1)) ∙ p.next_is;
+    next_is = λ events. ap pause_by (step_is (data_with old events 1)) ∙ by_shown code count me c (act code count me i c (data_with old events 1)) ∙ p.next_is events;
+    waits_there = ap (λ q. waits_at q next) at_x ∙ ap (λ j. waits j next) same_i ∙ w;
   }
 
   module _ (acts : (events : List Kind) → act code count me i c (data_with old events 0) ≡ Done (control_of new) (data_with new events 0)) (keeps : Keeps code i old new) where
@@ -171,4 +172,4 @@ holds_by code count me old new i (Some next) h is m = subst (λ (x : Execution).
 
 pub steps_by : (code : Code) (count me : ℕ) (old new : Execution) (i : Instr) (result : Option Pause) → ∥ Holds code old ∥₁ → option_map (λ (x : Placed). x.instr) (slice_get (steps_of code old.frame.function) old.frame.place) ≡ Some i → Moves code count me i old new result → Steps code count me old new result
 steps_by code count me old new i None h is m = goes_on code count me old new i is m.0 m.1 h
-steps_by code count me old new i (Some next) h is m = (m.0, stands code count me old new i is next m.1)
+steps_by code count me old new i (Some next) h is m = (m.0, stands code count me old new i is next m.1 m.2)

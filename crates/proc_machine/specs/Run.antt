@@ -1,5 +1,5 @@
 -- Running on to the next event.
-use Rattle.std.specs.Prelude.{◌≡◌, ℕ, suc, ◌+◌, ◌-◌, ◌*◌, ◌<◌, Bool, true, false, List, [], length, Option, Some, None, slice_get, if◌then◌else◌}
+use Rattle.std.specs.Prelude.{◌≡◌, ℕ, suc, ◌+◌, ◌-◌, ◌*◌, ◌<◌, Bool, true, false, List, [], length, Option, Some, None, slice_get, IsTrue, if◌then◌else◌}
 use Rattle.nm_base.specs.declared.kind.Kind.{Kind}
 use Rattle.c_tree.specs.State.{State, Done, Stopped}
 use Rattle.stack_code.specs.declared.instr.Instr.{Instr}
@@ -9,19 +9,24 @@ use Rattle.stack_code.specs.Machine.{Control, filled, blocks_of, step, exec}
 use Rattle.proc_machine.specs.declared.execution.Execution.{Execution}
 use Rattle.proc_machine.specs.declared.pause.Pause.{Pause}
 use Rattle.proc_machine.specs.Pauses.{status_of, pause_by}
-use Rattle.proc_machine.specs.View.{control_of, data_with}
+use Rattle.proc_machine.specs.View.{control_of, data_with, waits}
 
 -- a run comes from one place and its data to another
 pub record Reaches (code : Code) (count me : ℕ) (c : Control) (s : State) (d : Control) (u : State) : Type 0 where
   pub steps : ℕ
   pub comes : exec code count me steps c s ≡ Done d u
 
+abbrev pub waits_at : Option Placed → Pause → Bool
+waits_at None next = false
+waits_at (Some x) next = waits x.instr next
+
 -- it stands just before this event
 pub record StandsBefore (code : Code) (count me : ℕ) (e : Execution) (next : Pause) : Type 0 where
   -- where no more events may be made it stops there
   pub stops : (events : List Kind) → step code count me (control_of e) (data_with e events 0) ≡ Stopped (status_of next) (filled (blocks_of code count me (control_of e)) (data_with e events 0))
   -- where one may be made, it is this
-  pub next_is : pause_by (step code count me (control_of e) (data_with e [] 1)) ≡ Some next
+  pub next_is : (events : List Kind) → pause_by (step code count me (control_of e) (data_with e events 1)) ≡ Some next
+  pub waits_there : IsTrue (waits_at (slice_get (steps_of code e.frame.function) e.frame.place) next)
 
 -- ---- a measure of the way to the next event
 

@@ -1,5 +1,5 @@
 -- What the definitions of the machine see of an execution.
-use Rattle.std.specs.Prelude.{◌≡◌, ℕ, zero, suc, ◌+◌, ◌-◌, ◌<◌, ◌≤◌, ◌^◌, slice_get, List, [], ◌∷◌, ◌++◌, length, take, drop, reverse, replicate, Option, Some, None, option_map, Result, Ok, Err}
+use Rattle.std.specs.Prelude.{◌≡◌, ℕ, zero, suc, ◌+◌, ◌-◌, ◌<◌, ◌≤◌, ◌^◌, slice_get, IsTrue, Bool, true, false, ◌==◌, List, [], ◌∷◌, ◌++◌, length, take, drop, reverse, replicate, Option, Some, None, option_map, Result, Ok, Err}
 use Rattle.nm_base.specs.declared.kind.Kind.{Kind}
 use Rattle.nm_base.specs.declared.kind.FaultCause.{FaultCause}
 use Rattle.nm_base.specs.Message.{message_of}
@@ -14,6 +14,7 @@ use Rattle.proc_machine.specs.declared.callers.Frame.{Frame as KeptFrame}
 use Rattle.proc_machine.specs.declared.callers.Caller.{Caller as KeptCaller}
 use Rattle.proc_machine.specs.declared.execution.Execution.{Execution}
 use Rattle.proc_machine.specs.declared.pause.Pause.{Pause}
+use Rattle.proc_machine.specs.declared.pause.Pause.TheVariants as pause
 use Rattle.proc_machine.specs.Stacked.{OperandStack, upper, lower}
 use Rattle.proc_machine.specs.Pauses.{status_of, pause_by}
 
@@ -49,7 +50,8 @@ data_with e events left = record {
 pub record Pauses (run : Run Control) (e : Execution) (next : Pause) : Type 0 where
   -- with no events left it stops there
   pub stops : (events : List Kind) → run (data_with e events 0) ≡ Stopped (status_of next) (data_with e events 0)
-  pub next_is : pause_by (run (data_with e [] 1)) ≡ Some next
+  -- with one it makes an event of this kind
+  pub next_is : (events : List Kind) → pause_by (run (data_with e events 1)) ≡ Some next
 
 -- the topmost operands are words
 abbrev pub Small : ℕ → List ℕ → Type 0
@@ -100,10 +102,20 @@ pub record Keeps (code : Code) (i : Instr) (old new : Execution) : Type 0 where
   pub height : new.calls.height ≡ old.calls.height
   pub frames : FramesFit code old → FramesFit code new
 
+-- before which events an instruction stands
+abbrev pub waits : Instr → Pause → Bool
+waits i (pause.Fault cause) = true
+waits (instr.Line line) (pause.Line l) = line == l
+waits (instr.Send words) pause.Send = true
+waits instr.Receive (pause.Receive set) = true
+waits (instr.Print text) pause.Print = true
+waits instr.Return (pause.End value) = true
+waits i next = false
+
 abbrev pub Moves : Code → ℕ → ℕ → Instr → Execution → Execution → Option Pause → Type 0
 Moves code count me i old new None =
     ((events : List Kind) → act code count me i (control_of old) (data_with old events 0) ≡ Done (control_of new) (data_with new events 0)) × Keeps code i old new
-Moves code count me i old new (Some next) = (new ≡ old) × Pauses (act code count me i (control_of old)) old next
+Moves code count me i old new (Some next) = (new ≡ old) × IsTrue (waits i next) × Pauses (act code count me i (control_of old)) old next
 
 -- ---- changes
 

@@ -8,12 +8,12 @@ use Rattle.proc_machine.proofs.execution.Execution.call.Goals as goal
 pub returns-then-callers-ge256 : goal.returns-then-callers-ge256
 returns-then-callers-ge256 c =
     let e = c.args.self.now in
-    (refl, called_deep e c.args.function c.frame-frame.result _ c.frame-frame.ensures (is_deep e (omega (arith, c.if-callers-ge256.true, c.callers.ensures.same))))
+    (refl, refl, called_deep e c.args.function c.frame-frame.result _ c.frame-frame.ensures (is_deep e (omega (arith, c.if-callers-ge256.true, c.callers.ensures.same))))
 
 pub returns-then-len-frame-gt-WORDS_LIMIT : goal.returns-then-len-frame-gt-WORDS_LIMIT
 returns-then-len-frame-gt-WORDS_LIMIT c =
     let e = c.args.self.now in
-    (refl, called_full e c.args.function c.frame-frame.result _ c.frame-frame.ensures (is_low e (omega (arith, c.if-callers-ge256.false, c.callers.ensures.same))) (is_full e c.frame-frame.result.frame_words (omega (arith, c.if-len-frame-gt-WORDS_LIMIT.true, c.len.ensures.same))))
+    (refl, refl, called_full e c.args.function c.frame-frame.result _ c.frame-frame.ensures (is_low e (omega (arith, c.if-callers-ge256.false, c.callers.ensures.same))) (is_full e c.frame-frame.result.frame_words (omega (arith, c.if-len-frame-gt-WORDS_LIMIT.true, c.len.ensures.same))))
 
 pub returns : goal.returns
 returns c =

@@ -30,7 +30,7 @@ returns-then-saturating_add-le-OUTPUT_LIMIT c =
     let n : c.conversions.result ≡ conversions text = c.conversions.ensures ∙ ap conversions is in
     let values : c.last-values.result.now ≡ reverse (take (conversions text) own) = c.last-values.ensures ∙ ap (λ k. reverse (take k own)) n in
     let len : c.printed_length-length.result ≡ length (printed text (reverse (take (conversions text) own))) = c.printed_length-length.ensures ∙ ap length (printed_bytes c.text-bytes.result.now c.last-values.result.now (reverse (take (conversions text) own)) text values is) in
-    (refl, print_pauses e text (conversions text) c.requires.some (has_room _ _ (omega (arith, len, c.if-saturating_add-le-OUTPUT_LIMIT.true, c.saturating_add.ensures, c.len.ensures, e.output.ok.0))))
+    (refl, refl, print_pauses e text (conversions text) c.requires.some (has_room _ _ (omega (arith, len, c.if-saturating_add-le-OUTPUT_LIMIT.true, c.saturating_add.ensures, c.len.ensures, e.output.ok.0))))
 
 pub returns-else-saturating_add-le-OUTPUT_LIMIT : goal.returns-else-saturating_add-le-OUTPUT_LIMIT
 returns-else-saturating_add-le-OUTPUT_LIMIT c =
@@ -41,4 +41,4 @@ returns-else-saturating_add-le-OUTPUT_LIMIT c =
     let n : c.conversions.result ≡ conversions text = c.conversions.ensures ∙ ap conversions is in
     let values : c.last-values.result.now ≡ reverse (take (conversions text) own) = c.last-values.ensures ∙ ap (λ k. reverse (take k own)) n in
     let len : c.printed_length-length.result ≡ length (printed text (reverse (take (conversions text) own))) = c.printed_length-length.ensures ∙ ap length (printed_bytes c.text-bytes.result.now c.last-values.result.now (reverse (take (conversions text) own)) text values is) in
-    (refl, print_faults e text (conversions text) c.requires.some (no_room _ _ (omega (arith, len, c.if-saturating_add-le-OUTPUT_LIMIT.false, c.saturating_add.ensures, c.len.ensures, e.output.ok.0))))
+    (refl, refl, print_faults e text (conversions text) c.requires.some (no_room _ _ (omega (arith, len, c.if-saturating_add-le-OUTPUT_LIMIT.false, c.saturating_add.ensures, c.len.ensures, e.output.ok.0))))
