@@ -6,7 +6,8 @@ use Rattle.std.proofs.lemmas.Grind.{reverse_onto}
 use Rattle.std.proofs.lemmas.Bool.{ltb-true, ltb-false, leb-true, leb-false}
 use Rattle.nm_base.specs.declared.kind.Kind.{Kind}
 use Rattle.nm_base.specs.declared.kind.FaultCause.TheVariants.{DepthFull, DataFull}
-use Rattle.c_tree.specs.State.{State, Outcome, Done, Stopped, Able, Run, then_on}
+use Rattle.nm_base.specs.declared.kind.Kind.TheVariants.{Faulted}
+use Rattle.c_tree.specs.State.{State, Outcome, Done, Stopped, Able, Over, Run, then_on}
 use Rattle.c_tree.specs.Expr.{demand}
 use Rattle.stack_code.specs.declared.code.FunctionFrame.{FunctionFrame}
 use Rattle.stack_code.specs.declared.instr.Instr.TheVariants as instr
@@ -52,6 +53,10 @@ module _ (e : Execution) where
   deep_next false h k j events = refl
   deep_next true h k j events = cc
 
+  deep_last : (b : Bool) → b ≡ false → (k : Unit {0} → Run (Unit {0})) (j : Unit {0} → Run Control) (events : List Kind) → then_on (then_on (demand b DepthFull (at events 1)) k) j ≡ Stopped Over (at (Faulted DepthFull ∷ events) 0)
+  deep_last false h k j events = refl
+  deep_last true h k j events = cc
+
   module _ (size : ℕ) where
     abbrev after : (Unit {0} → Run (Unit {0})) → Unit {0} → Run (Unit {0})
     after k _ s = then_on (demand (nat_le (length s.words + size) 65536) DataFull s) k
@@ -63,6 +68,10 @@ module _ (e : Execution) where
     fails_next : (d : Bool) → d ≡ false → (k : Unit {0} → Run (Unit {0})) (j : Unit {0} → Run Control) (events : List Kind) → pause_by (then_on (then_on (demand d DataFull (at events 1)) k) j) ≡ Some (Fault DataFull)
     fails_next false h k j events = refl
     fails_next true h k j events = cc
+
+    fails_last : (d : Bool) → d ≡ false → (k : Unit {0} → Run (Unit {0})) (j : Unit {0} → Run Control) (events : List Kind) → then_on (then_on (demand d DataFull (at events 1)) k) j ≡ Stopped Over (at (Faulted DataFull ∷ events) 0)
+    fails_last false h k j events = refl
+    fails_last true h k j events = cc
 
     holds_goes : (d : Bool) → d ≡ true → (k : Unit {0} → Run (Unit {0})) (j : Unit {0} → Run Control) (events : List Kind) → then_on (then_on (demand d DataFull (at events 0)) k) j ≡ then_on (k tt (at events 0)) j
     holds_goes true h k j events = refl
@@ -118,7 +127,7 @@ module _ (e : Execution) where
   module _ (number : ℕ) (f : FunctionFrame) where
     pub called_deep : (o : Option FunctionCode) → option_map frame_of o ≡ Some f → depth ≡ false → Pauses (called number o (control_of e)) e (Fault DepthFull)
     called_deep None is h = cc
-    called_deep (Some g) is h = record { stops = λ events. deep_stops depth h _ _ events; next_is = λ events. deep_next depth h _ _ events }
+    called_deep (Some g) is h = record { stops = λ events. deep_stops depth h _ _ events; next_is = λ events. deep_next depth h _ _ events; last = λ events. deep_last depth h _ _ events }
 
     pub called_full : (o : Option FunctionCode) → option_map frame_of o ≡ Some f → depth ≡ true → fits f.frame_words ≡ false → Pauses (called number o (control_of e)) e (Fault DataFull)
     called_full None is h d = cc
@@ -128,6 +137,7 @@ module _ (e : Execution) where
         record {
           stops = λ events. past_depth g.frame_words depth h _ _ events 0 ∙ fails_stops g.frame_words (fits g.frame_words) d2 _ _ events;
           next_is = λ events. ap pause_by (past_depth g.frame_words depth h _ _ events 1) ∙ fails_next g.frame_words (fits g.frame_words) d2 _ _ events;
+          last = λ events. past_depth g.frame_words depth h _ _ events 1 ∙ fails_last g.frame_words (fits g.frame_words) d2 _ _ events;
         }
 
     pub called_goes : (o : Option FunctionCode) → option_map frame_of o ≡ Some f → depth ≡ true → fits f.frame_words ≡ true → f.param_words ≤ length e.calls.own → (events : List Kind) → called number o (control_of e) (data_with e events 0) ≡ Done (control_of (opened number f e)) (data_with (opened number f e) events 0)

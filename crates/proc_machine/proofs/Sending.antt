@@ -88,12 +88,12 @@ module _ (e : Execution) where
     pub send_pauses : test ≡ true → Pauses sending e pause.Send
     send_pauses h =
         subst (λ run. Pauses run e pause.Send) (sym sending_is)
-        (subst (λ b. Pauses (push c (drop (words + 2) own) (sent_if b dest chan whole)) e pause.Send) (sym h) (record { stops = λ events. refl; next_is = λ events. refl }))
+        (subst (λ b. Pauses (push c (drop (words + 2) own) (sent_if b dest chan whole)) e pause.Send) (sym h) (record { stops = λ events. refl; next_is = λ events. refl; last = tt }))
 
     pub send_faults : test ≡ false → Pauses sending e (pause.Fault Address)
     send_faults h =
         subst (λ run. Pauses run e (pause.Fault Address)) (sym sending_is)
-        (subst (λ b. Pauses (push c (drop (words + 2) own) (sent_if b dest chan whole)) e (pause.Fault Address)) (sym h) (record { stops = λ events. refl; next_is = λ events. refl }))
+        (subst (λ b. Pauses (push c (drop (words + 2) own) (sent_if b dest chan whole)) e (pause.Fault Address)) (sym h) (record { stops = λ events. refl; next_is = λ events. refl; last = λ events. refl }))
 
   module _ (text : List ℕ) (n : ℕ) (few : n ≤ length own) where
     abbrev bytes : List ℕ
@@ -114,6 +114,7 @@ module _ (e : Execution) where
         (record {
           stops = λ events. ap (λ b. push c (drop n own) (printed_if b bytes) (data_with e events 0)) h;
           next_is = λ events. ap (λ b. pause_by (push c (drop n own) (printed_if b bytes) (data_with e events 1))) h;
+          last = tt;
         })
 
     pub print_faults : room ≡ false → Pauses printing e (pause.Fault OutputFull)
@@ -122,6 +123,7 @@ module _ (e : Execution) where
         (record {
           stops = λ events. ap (λ b. push c (drop n own) (printed_if b bytes) (data_with e events 0)) h;
           next_is = λ events. ap (λ b. pause_by (push c (drop n own) (printed_if b bytes) (data_with e events 1))) h;
+          last = λ events. ap (λ b. push c (drop n own) (printed_if b bytes) (data_with e events 1)) h;
         })
 
 pub word_bounds : (words : ℕ) → IsTrue (nat_le 1 words && nat_le words 8) → (1 ≤ words) × (words ≤ 8)

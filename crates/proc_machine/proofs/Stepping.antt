@@ -16,12 +16,13 @@ use Rattle.stack_code.proofs.Forward.{step_advances}
 use Rattle.proc_machine.specs.declared.callers.Caller.{Caller as KeptCaller}
 use Rattle.proc_machine.specs.declared.execution.Execution.{Execution}
 use Rattle.proc_machine.specs.declared.pause.Pause.{Pause}
+use Rattle.proc_machine.specs.declared.pause.Pause.TheVariants as pause
 use Rattle.proc_machine.specs.Stacked.{upper, lower}
 use Rattle.proc_machine.specs.Pauses.{status_of, pause_by}
-use Rattle.proc_machine.specs.View.{callers_of, control_of, data_with, Pauses, Keeps, Moves, waits}
+use Rattle.proc_machine.specs.View.{callers_of, control_of, data_with, Pauses, Keeps, Moves, IsLast, waits}
 use Rattle.proc_machine.specs.Sound.{IsSoundAt, Holds}
 use Rattle.proc_machine.specs.Ready.{IsReady}
-use Rattle.proc_machine.specs.Run.{Reaches, StandsBefore, waits_at, is_line, is_line_at, way, GoesOn, Steps}
+use Rattle.proc_machine.specs.Run.{IsLastThere, Reaches, StandsBefore, waits_at, is_line, is_line_at, way, GoesOn, Steps}
 use Rattle.proc_machine.proofs.Advancing.{act_sound}
 use Rattle.proc_machine.proofs.Readiness.{there, is_there, ready, it_follows, params_are}
 
@@ -81,10 +82,16 @@ module _ (code : Code) (count me : ℕ) (old new : Execution) (i : Instr) (is : 
   step_is : (s : State) → step code count me c s ≡ shown code count me c (act code count me i c s)
   step_is s = ap (λ q. shown code count me c (act_if_any code count me q c s)) at_x ∙ ap (λ j. shown code count me c (act code count me j c s)) same_i
 
+  last_there : (next : Pause) → IsLast (act code count me i c) old next → IsLastThere code count me old next
+  last_there (pause.Fault cause) h = λ events. step_is (data_with old events 1) ∙ ap (shown code count me c) (h events)
+  last_there (pause.End value) h = λ events. step_is (data_with old events 1) ∙ ap (shown code count me c) (h events)
+  last_there next h = tt
+
   pub stands : (next : Pause) → IsTrue (waits i next) → Pauses (act code count me i c) old next → StandsBefore code count me old next
   stands next w p = record {
     stops = λ events. step_is (data_with old events 0) ∙ ap (shown code count me c) (p.stops events);
     next_is = λ events. ap pause_by (step_is (data_with old events 1)) ∙ by_shown code count me c (act code count me i c (data_with old events 1)) ∙ p.next_is events;
+    last = last_there next p.last;
     waits_there = ap (λ q. waits_at q next) at_x ∙ ap (λ j. waits j next) same_i ∙ w;
   }
 

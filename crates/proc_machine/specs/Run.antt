@@ -1,13 +1,15 @@
 -- Running on to the next event.
-use Rattle.std.specs.Prelude.{◌≡◌, ℕ, suc, ◌+◌, ◌-◌, ◌*◌, ◌<◌, Bool, true, false, List, [], length, Option, Some, None, slice_get, IsTrue, if◌then◌else◌}
+use Rattle.std.specs.Prelude.{◌≡◌, ℕ, suc, ◌+◌, ◌-◌, ◌*◌, ◌<◌, Bool, true, false, List, [], ◌∷◌, length, Option, Some, None, slice_get, IsTrue, if◌then◌else◌}
 use Rattle.nm_base.specs.declared.kind.Kind.{Kind}
-use Rattle.c_tree.specs.State.{State, Done, Stopped}
+use Rattle.nm_base.specs.declared.kind.Kind.TheVariants as kind
+use Rattle.c_tree.specs.State.{State, Over, Done, Stopped}
 use Rattle.stack_code.specs.declared.instr.Instr.{Instr}
 use Rattle.stack_code.specs.declared.instr.Instr.TheVariants as instr
 use Rattle.stack_code.specs.Code.{Placed, Code, steps_of}
 use Rattle.stack_code.specs.Machine.{Control, filled, blocks_of, step, exec}
 use Rattle.proc_machine.specs.declared.execution.Execution.{Execution}
 use Rattle.proc_machine.specs.declared.pause.Pause.{Pause}
+use Rattle.proc_machine.specs.declared.pause.Pause.TheVariants as pause
 use Rattle.proc_machine.specs.Pauses.{status_of, pause_by}
 use Rattle.proc_machine.specs.View.{control_of, data_with, waits}
 
@@ -20,12 +22,21 @@ abbrev pub waits_at : Option Placed → Pause → Bool
 waits_at None next = false
 waits_at (Some x) next = waits x.instr next
 
+-- Where an event is the last one, the run is over with it.
+abbrev pub IsLastThere : Code → ℕ → ℕ → Execution → Pause → Type 0
+IsLastThere code count me e (pause.Fault cause) =
+    (events : List Kind) → step code count me (control_of e) (data_with e events 1) ≡ Stopped Over (filled (blocks_of code count me (control_of e)) (data_with e (kind.Faulted cause ∷ events) 0))
+IsLastThere code count me e (pause.End value) =
+    (events : List Kind) → step code count me (control_of e) (data_with e events 1) ≡ Stopped Over (filled (blocks_of code count me (control_of e)) (data_with e (kind.Ended value ∷ events) 0))
+IsLastThere code count me e next = Unit {0}
+
 -- it stands just before this event
 pub record StandsBefore (code : Code) (count me : ℕ) (e : Execution) (next : Pause) : Type 0 where
   -- where no more events may be made it stops there
   pub stops : (events : List Kind) → step code count me (control_of e) (data_with e events 0) ≡ Stopped (status_of next) (filled (blocks_of code count me (control_of e)) (data_with e events 0))
   -- where one may be made, it is this
   pub next_is : (events : List Kind) → pause_by (step code count me (control_of e) (data_with e events 1)) ≡ Some next
+  pub last : IsLastThere code count me e next
   pub waits_there : IsTrue (waits_at (slice_get (steps_of code e.frame.function) e.frame.place) next)
 
 -- ---- a measure of the way to the next event

@@ -1,9 +1,11 @@
 -- What the definitions of the machine see of an execution.
 use Rattle.std.specs.Prelude.{◌≡◌, ℕ, zero, suc, ◌+◌, ◌-◌, ◌<◌, ◌≤◌, ◌^◌, slice_get, IsTrue, Bool, true, false, ◌==◌, List, [], ◌∷◌, ◌++◌, length, take, drop, reverse, replicate, Option, Some, None, option_map, Result, Ok, Err}
 use Rattle.nm_base.specs.declared.kind.Kind.{Kind}
+use Rattle.nm_base.specs.declared.kind.Kind.TheVariants as kind
 use Rattle.nm_base.specs.declared.kind.FaultCause.{FaultCause}
+use Rattle.nm_base.specs.declared.letter.Letter.{Letter}
 use Rattle.nm_base.specs.Message.{message_of}
-use Rattle.c_tree.specs.State.{State, Done, Stopped, Run}
+use Rattle.c_tree.specs.State.{State, Done, Stopped, Over, Run}
 use Rattle.c_tree.specs.State as state
 use Rattle.stack_code.specs.declared.code.FunctionFrame.{FunctionFrame}
 use Rattle.stack_code.specs.declared.instr.Instr.{Instr}
@@ -46,12 +48,19 @@ data_with e events left = record {
   sent = e.sent;
 }
 
+-- Where an event is the last one, the run is over with it.
+abbrev pub IsLast : Run Control → Execution → Pause → Type 0
+IsLast run e (pause.Fault cause) = (events : List Kind) → run (data_with e events 1) ≡ Stopped Over (data_with e (kind.Faulted cause ∷ events) 0)
+IsLast run e (pause.End value) = (events : List Kind) → run (data_with e events 1) ≡ Stopped Over (data_with e (kind.Ended value ∷ events) 0)
+IsLast run e next = Unit {0}
+
 -- one step: it goes on, or stands before an event
 pub record Pauses (run : Run Control) (e : Execution) (next : Pause) : Type 0 where
   -- with no events left it stops there
   pub stops : (events : List Kind) → run (data_with e events 0) ≡ Stopped (status_of next) (data_with e events 0)
   -- with one it makes an event of this kind
   pub next_is : (events : List Kind) → pause_by (run (data_with e events 1)) ≡ Some next
+  pub last : IsLast run e next
 
 -- the topmost operands are words
 abbrev pub Small : ℕ → List ℕ → Type 0
@@ -139,3 +148,17 @@ opened number f e = record e {
   };
   words = e.words ++ take f.frame_words (reverse (take f.param_words e.calls.own) ++ replicate f.frame_words 0);
 }
+
+-- an instruction makes an event
+abbrev pub Makes : Code → ℕ → ℕ → Instr → Execution → Execution → Kind → Type 0
+Makes code count me i old new k =
+    ((events : List Kind) → act code count me i (control_of old) (data_with old events 1) ≡ Done (control_of new) (data_with new (k ∷ events) 0)) × Keeps code i old new
+
+-- a receive takes this letter
+abbrev pub Takes : Code → ℕ → ℕ → Execution → Execution → ℕ → Letter → Type 0
+Takes code count me old new set letter =
+    ((events : List Kind) → act code count me instr.Receive (control_of old) (record (data_with old events 1) { inputs = message_of letter ∷ [] }) ≡ Done (control_of new) (data_with new (kind.Accepted set letter.id ∷ events) 0)) × Keeps code instr.Receive old new
+
+-- the event that sends a letter
+abbrev pub sent_by : Letter → Kind
+sent_by l = kind.Sent l.id.number l.dest l.chan l.len l.words

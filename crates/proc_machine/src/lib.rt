@@ -5,6 +5,7 @@
 mod call_stack;
 mod callers;
 mod calls;
+mod events;
 mod execute;
 mod execution;
 mod messages;
