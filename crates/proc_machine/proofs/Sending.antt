@@ -1,18 +1,22 @@
 -- Sends, receives and prints stand before their events, or before a fault.
-use Rattle.std.proofs.Common.{◌≡◌, ℕ, zero, suc, ◌+◌, ◌-◌, ◌<◌, ◌≤◌, ◌^◌, get_or, Bool, true, false, List, [], ◌∷◌, ◌++◌, length, take, drop, reverse, replicate, Option, Some, None, refl, sym, ap, ◌∙◌, subst, arith, rules, tests, append_assoc}
+use Rattle.std.proofs.Common.{◌≡◌, ℕ, zero, suc, ◌+◌, ◌-◌, ◌<◌, ◌≤◌, ◌^◌, get_or, Bool, true, false, List, [], ◌∷◌, ◌++◌, length, take, drop, reverse, replicate, Option, Some, None, refl, sym, ap, ◌∙◌, subst, arith, rules, tests, append_assoc, Vec, Global, Ok, lit<}
 use Rattle.std.proofs.lemmas.Bool.{ltb-true, leb-true}
 use Rattle.std.specs.Prelude.{IsTrue, nat_lt, nat_le, ◌&&◌, slice_index}
 use Rattle.std.proofs.lemmas.List.{append-nil, reverse-append, length-reverse, length-take, get_or-reverse}
 use Rattle.nm_base.specs.declared.kind.Kind.TheVariants.{Sent, Printed}
 use Rattle.nm_base.specs.declared.kind.FaultCause.TheVariants.{Address, OutputFull}
-use Rattle.c_tree.specs.State.{State, Run, ◌>>=◌, ◌>>◌, pure, read, change, happen}
+use Rattle.nm_base.specs.declared.kind.Kind.{Kind}
+use Rattle.nm_base.specs.declared.letter.Letter.{Letter}
+use Rattle.stack_code.specs.declared.instr.Instr.TheVariants as instr
+use Rattle.stack_code.specs.Code.{Code}
+use Rattle.c_tree.specs.State.{State, Done, Run, ◌>>=◌, ◌>>◌, pure, read, change, happen}
 use Rattle.c_tree.specs.Print.{printed}
 use Rattle.c_tree.specs.Expr.{demand, padded, send, send_words, print}
-use Rattle.stack_code.specs.Machine.{Control, popped, push}
+use Rattle.stack_code.specs.Machine.{Control, popped, push, next}
 use Rattle.proc_machine.specs.declared.execution.Execution.{Execution}
 use Rattle.proc_machine.specs.declared.pause.Pause.TheVariants as pause
 use Rattle.proc_machine.specs.Pauses.{pause_by}
-use Rattle.proc_machine.specs.View.{control_of, data_with, Pauses}
+use Rattle.proc_machine.specs.View.{control_of, data_with, Pauses, Keeps, given, sent_by}
 use Rattle.proc_machine.proofs.Calling.{popped_are}
 
 take_one : (xs : List ℕ) (i : ℕ) → i < length xs → take (suc i) xs ≡ take i xs ++ slice_index xs i ∷ []
@@ -45,6 +49,12 @@ printed_if b bytes = do
   happen (Printed (length bytes))
   change (λ s. record s { output = s.output ++ bytes })
   pure (length bytes)
+
+take_all : (n : ℕ) (xs : List ℕ) → length xs ≤ n → take n xs ≡ xs
+take_all zero [] h = refl
+take_all zero (x ∷ xs) h = absurd (omega (arith, h))
+take_all (suc n) [] h = refl
+take_all (suc n) (x ∷ xs) h = ap (λ l. x ∷ l) (take_all n xs (omega (arith, h)))
 
 module _ (e : Execution) where
   abbrev own : List ℕ
@@ -95,6 +105,44 @@ module _ (e : Execution) where
         subst (λ run. Pauses run e (pause.Fault Address)) (sym sending_is)
         (subst (λ b. Pauses (push c (drop (words + 2) own) (sent_if b dest chan whole)) e (pause.Fault Address)) (sym h) (record { stops = λ events. refl; next_is = λ events. refl; last = λ events. refl }))
 
+    letter_is : words ≤ 8 → whole ≡ reverse (take words own)
+    letter_is most =
+        let len = ap (λ (l : List ℕ). length l) letter_words.2 in
+        let a = length-take words own in
+        let b = length-reverse (take words own) in
+        take_all 8 (letter_words.0 ∷ letter_words.1) (omega (arith, len, a, b, most)) ∙ sym letter_words.2
+
+    whole_length : words ≤ 8 → length whole ≡ words
+    whole_length most =
+        let a = length-take words own in
+        let b = length-reverse (take words own) in
+        let c = ap (λ (l : List ℕ). length l) (letter_is most) in
+        omega (arith, a, b, c, few)
+
+    abbrev kind_sent : Kind
+    kind_sent = Sent e.sent (record { no = dest }) chan words (padded (reverse (take words own)))
+
+    send_done : words ≤ 8 → test ≡ true → (events : List Kind) → sending (data_with e events 1) ≡ Done (next c (0 ∷ drop (words + 2) own)) (record (data_with e (kind_sent ∷ events) 0) { sent = e.sent + 1 })
+    send_done most h events =
+        ap (λ (run : Run Control). run (data_with e events 1)) sending_is
+        ∙ ap (λ b. push c (drop (words + 2) own) (sent_if b dest chan whole) (data_with e events 1)) h
+        ∙ ap (λ n. Done (next c (0 ∷ drop (words + 2) own)) (record (data_with e (Sent e.sent (record { no = dest }) chan n (padded whole) ∷ events) 0) { sent = e.sent + 1 })) (whole_length most)
+        ∙ ap (λ l. Done (next c (0 ∷ drop (words + 2) own)) (record (data_with e (Sent e.sent (record { no = dest }) chan words (padded l) ∷ events) 0) { sent = e.sent + 1 })) (letter_is most)
+
+    pub send_makes : (code : Code) (new : Execution) (letter : Letter) → words ≤ 8 → test ≡ true → letter.id.number ≡ e.sent → letter.dest.no ≡ dest → letter.chan ≡ chan → letter.len ≡ words → letter.words ≡ padded (reverse (take words own)) → new ≡ given (words + 2) (Ok 0) (record e { sent = e.sent + 1 }) → ((events : List Kind) → sending (data_with e events 1) ≡ Done (control_of new) (data_with new (sent_by letter ∷ events) 0)) × Keeps code (instr.Send words) e new
+    send_makes code new letter most h number to on len ws is =
+        let same : kind_sent ≡ sent_by letter =
+            ap (λ n. Sent n (record { no = dest }) chan words (padded (reverse (take words own)))) (sym number)
+            ∙ ap (λ d. Sent letter.id.number (record { no = d }) chan words (padded (reverse (take words own)))) (sym to)
+            ∙ ap (λ d. Sent letter.id.number letter.dest d words (padded (reverse (take words own)))) (sym on)
+            ∙ ap (λ d. Sent letter.id.number letter.dest letter.chan d (padded (reverse (take words own)))) (sym len)
+            ∙ ap (λ d. Sent letter.id.number letter.dest letter.chan letter.len d) (sym ws) in
+        (λ events.
+            send_done most h events
+            ∙ ap (λ k. Done (next c (0 ∷ drop (words + 2) own)) (record (data_with e (k ∷ events) 0) { sent = e.sent + 1 })) same
+            ∙ ap (λ (x : Execution). Done (control_of x) (data_with x (sent_by letter ∷ events) 0)) (sym is),
+          subst (λ (x : Execution). Keeps code (instr.Send words) e x) (sym is) (record { small = (lit< tt, tt); height = refl; frames = λ f. f }))
+
   module _ (text : List ℕ) (n : ℕ) (few : n ≤ length own) where
     abbrev bytes : List ℕ
     bytes = printed text (reverse (take n own))
@@ -125,6 +173,20 @@ module _ (e : Execution) where
           next_is = λ events. ap (λ b. pause_by (push c (drop n own) (printed_if b bytes) (data_with e events 1))) h;
           last = λ events. ap (λ b. push c (drop n own) (printed_if b bytes) (data_with e events 1)) h;
         })
+
+    print_done : room ≡ true → (events : List Kind) → printing (data_with e events 1) ≡ Done (next c (length bytes ∷ drop n own)) (record (data_with e (Printed (length bytes) ∷ events) 0) { output = e.output.items ++ bytes })
+    print_done h events =
+        ap (λ (run : Run Control). run (data_with e events 1)) printing_is
+        ∙ ap (λ b. push c (drop n own) (printed_if b bytes) (data_with e events 1)) h
+
+    pub print_makes : (code : Code) (number : ℕ) (new : Execution) (out : Vec ℕ Global) (len : ℕ) → room ≡ true → len < 2 ^ 32 → len ≡ length bytes → out.items ≡ e.output.items ++ bytes → new ≡ given n (Ok len) (record e { output = out }) → ((events : List Kind) → printing (data_with e events 1) ≡ Done (control_of new) (data_with new (Printed len ∷ events) 0)) × Keeps code (instr.Print number) e new
+    print_makes code number new out len h small is items same =
+        (λ events.
+            print_done h events
+            ∙ ap (λ k. Done (next c (k ∷ drop n own)) (record (data_with e (Printed k ∷ events) 0) { output = e.output.items ++ bytes })) (sym is)
+            ∙ ap (λ l. Done (next c (len ∷ drop n own)) (record (data_with e (Printed len ∷ events) 0) { output = l })) (sym items)
+            ∙ ap (λ (x : Execution). Done (control_of x) (data_with x (Printed len ∷ events) 0)) (sym same),
+          subst (λ (x : Execution). Keeps code (instr.Print number) e x) (sym same) (record { small = (small, tt); height = refl; frames = λ f. f }))
 
 pub word_bounds : (words : ℕ) → IsTrue (nat_le 1 words && nat_le words 8) → (1 ≤ words) × (words ≤ 8)
 word_bounds words h = let b = both (nat_le 1 words) (nat_le words 8) h in (leb-true 1 words b.0, leb-true words 8 b.1)

@@ -1,9 +1,10 @@
 -- What an instruction finds.
-use Rattle.std.specs.Prelude.{◌≡◌, ℕ, zero, suc, ◌+◌, ◌-◌, ◌<◌, ◌≤◌, ◌^◌, Bool, true, false, nat_lt, nat_le, ◌&&◌, ◌==◌, List, length, Option, Some, None, slice_get, slice_index, IsTrue}
+use Rattle.std.specs.Prelude.{◌≡◌, ℕ, zero, suc, ◌+◌, ◌-◌, ◌<◌, ◌≤◌, ◌^◌, Bool, true, false, nat_lt, nat_le, ◌&&◌, ◌==◌, List, length, take, reverse, Option, Some, None, slice_get, slice_index, IsTrue}
 use Rattle.stack_code.specs.declared.instr.Instr.{Instr}
 use Rattle.stack_code.specs.declared.instr.Instr.TheVariants as instr
 use Rattle.stack_code.specs.Code.{FunctionCode, Code}
 use Rattle.stack_code.specs.Machine.{conversions, text_at}
+use Rattle.c_tree.specs.Print.{printed}
 use Rattle.proc_machine.specs.declared.execution.Execution.{Execution}
 
 abbrev pub param_words_by : Option FunctionCode → ℕ
@@ -82,3 +83,15 @@ pub record IsReady (code : Code) (i : Instr) (e : Execution) : Type 0 where
   pub onward : e.frame.place + 1 < 2 ^ 32
   pub named : IsTrue (is_named code i)
   pub near : e.frame.base + reaches i < 2 ^ 32
+
+-- whether there are the process and the channel that the operands of a Send name
+abbrev pub is_addressed : ℕ → ℕ → List ℕ → Bool
+is_addressed count words own = nat_lt (slice_index own (words + 1)) count && nat_lt (slice_index own words) 32
+
+-- what a Print prints
+abbrev pub bytes_of : Code → ℕ → List ℕ → List ℕ
+bytes_of code text own = printed (text_at code 0 0 text) (reverse (take (conversions (text_at code 0 0 text)) own))
+
+-- whether the output has room for it
+abbrev pub has_room : Code → ℕ → Execution → Bool
+has_room code text e = nat_le (length e.output.items + length (bytes_of code text e.calls.own)) 1048576
