@@ -9,3 +9,4 @@ pub mod Advancing
 pub mod Readiness
 pub mod Stepping
 pub mod Running
+pub mod Starting

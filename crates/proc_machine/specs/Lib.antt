@@ -5,3 +5,5 @@ pub mod Stacked
 pub mod View
 pub mod Sound
 pub mod Run
+pub mod Standing
+pub mod Start

@@ -14,6 +14,7 @@ mod pause;
 mod printing;
 mod run;
 mod scratch;
+mod start;
 mod step;
 mod words;
 
