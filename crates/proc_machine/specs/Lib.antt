@@ -7,3 +7,4 @@ pub mod Sound
 pub mod Run
 pub mod Standing
 pub mod Start
+pub mod Machines

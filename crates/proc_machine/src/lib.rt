@@ -8,6 +8,7 @@ mod calls;
 mod events;
 mod execute;
 mod execution;
+mod machine;
 mod messages;
 mod operands;
 mod pause;
@@ -18,4 +19,5 @@ mod start;
 mod step;
 mod words;
 
+pub use machine::{Machine, MachineFrame};
 pub use pause::Pause;
