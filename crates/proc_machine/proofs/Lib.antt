@@ -10,3 +10,5 @@ pub mod Readiness
 pub mod Stepping
 pub mod Running
 pub mod Starting
+pub mod Sets
+pub mod Standings

@@ -6,7 +6,7 @@ use Rattle.stack_code.specs.Machine.{Control, step, exec}
 use Rattle.proc_machine.specs.Run.{Reaches}
 
 module _ (code : Code) (count me : ℕ) where
-  exec_more : (n : ℕ) (c : Control) (s : State) (d : Control) (u : State) (m : ℕ) → exec code count me n c s ≡ Done d u → exec code count me (n + m) c s ≡ exec code count me m d u
+  pub exec_more : (n : ℕ) (c : Control) (s : State) (d : Control) (u : State) (m : ℕ) → exec code count me n c s ≡ Done d u → exec code count me (n + m) c s ≡ exec code count me m d u
   exec_more zero c s d u m e =
       let same : c ≡ d = cc in
       let same_data : s ≡ u = cc in

@@ -168,8 +168,8 @@ module _ (code : Code) (count me : ℕ) (old new : Execution) (i : Instr) (is : 
         let w = way_is in
         omega (arith, n, w)
 
-    pub goes_on : ∥ Holds code old ∥₁ → GoesOn code count me old new
-    goes_on h = record { goes = goes; nearer = ∥∥₁_elim h (hlevel props) nearer }
+    pub goes_on : ∥ Holds code old ∥₁ → new.sent ≡ old.sent → GoesOn code count me old new
+    goes_on h sent = record { goes = goes; nearer = ∥∥₁_elim h (hlevel props) nearer; sent = sent }
 
 -- ---- a step that makes no event, and one that would
 
@@ -178,5 +178,26 @@ holds_by code count me old new i None h is m = ∥∥₁_map h (holds_on code co
 holds_by code count me old new i (Some next) h is m = subst (λ (x : Execution). ∥ Holds code x ∥₁) (sym m.0) h
 
 pub steps_by : (code : Code) (count me : ℕ) (old new : Execution) (i : Instr) (result : Option Pause) → ∥ Holds code old ∥₁ → option_map (λ (x : Placed). x.instr) (slice_get (steps_of code old.frame.function) old.frame.place) ≡ Some i → Moves code count me i old new result → Steps code count me old new result
-steps_by code count me old new i None h is m = goes_on code count me old new i is m.0 m.1 h
+steps_by code count me old new i None h is m = goes_on code count me old new i is m.0 m.1 h m.2
 steps_by code count me old new i (Some next) h is m = (m.0, stands code count me old new i is next m.1 m.2)
+
+-- an event that leads on
+module _ (code : Code) (count me : ℕ) (old new : Execution) (i : Instr) (is : option_map (λ (x : Placed). x.instr) (slice_get (steps_of code old.frame.function) old.frame.place) ≡ Some i) where
+  pub step_of : (s : State) → step code count me (control_of old) s ≡ shown code count me (control_of old) (act code count me i (control_of old) s)
+  step_of s = step_is code count me old new i is s
+
+  pub holds_after : (s u : State) → act code count me i (control_of old) s ≡ Done (control_of new) u → Keeps code i old new → ∥ Holds code old ∥₁ → ∥ Holds code new ∥₁
+  holds_after s u acts keeps h = ∥∥₁_map h (λ holds.
+      let x = some_of (slice_get (steps_of code old.frame.function) old.frame.place) i is in
+      record {
+        sound = holds.sound;
+        within = holds.within;
+        control =
+            act_sound code count me holds.sound (control_of old) holds.control (params_are code holds.within) i
+            (x.0.entered, x.1 ∙ ap (λ (j : Instr). Some (record { instr = j; entered = x.0.entered })) x.2)
+            (subst (λ (j : Instr). (n : ℕ) → IsTrue (follows code holds.control.here.function j old.frame.place holds.control.here.kinds (λ q t. finds code holds.control.here.function n q t))) x.2 (it_follows code count me old holds x.0 x.1))
+            s (control_of new) u acts keeps.small;
+        frames = keeps.frames holds.frames;
+        room = λ g. let r = holds.room g in let k = keeps.height in omega (arith, r, k);
+        narrow = let n = holds.narrow in let k = keeps.height in omega (arith, n, k);
+      })

@@ -57,6 +57,7 @@ way code e =
 pub record GoesOn (code : Code) (count me : ℕ) (old new : Execution) : Type 0 where
   pub goes : (events : List Kind) → step code count me (control_of old) (data_with old events 0) ≡ Done (control_of new) (data_with new events 0)
   pub nearer : way code new < way code old
+  pub sent : new.sent ≡ old.sent
 
 abbrev pub Steps : Code → ℕ → ℕ → Execution → Execution → Option Pause → Type 0
 Steps code count me old new None = GoesOn code count me old new

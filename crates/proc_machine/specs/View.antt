@@ -123,7 +123,7 @@ waits i next = false
 
 abbrev pub Moves : Code → ℕ → ℕ → Instr → Execution → Execution → Option Pause → Type 0
 Moves code count me i old new None =
-    ((events : List Kind) → act code count me i (control_of old) (data_with old events 0) ≡ Done (control_of new) (data_with new events 0)) × Keeps code i old new
+    ((events : List Kind) → act code count me i (control_of old) (data_with old events 0) ≡ Done (control_of new) (data_with new events 0)) × Keeps code i old new × (new.sent ≡ old.sent)
 Moves code count me i old new (Some next) = (new ≡ old) × IsTrue (waits i next) × Pauses (act code count me i (control_of old)) old next
 
 -- ---- changes

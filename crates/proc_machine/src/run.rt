@@ -1,6 +1,6 @@
 //! Running on to the next event.
 
-ghost use Rattle.std.specs.Prelude.{ℕ, List};
+ghost use Rattle.std.specs.Prelude.{◌≡◌, ℕ, List};
 ghost use Rattle.nm_base.specs.declared.kind.Kind.{Kind};
 ghost use Rattle.stack_code.specs.View.{code_of};
 ghost use Rattle.proc_machine.specs.Sound.{Holds};
@@ -26,6 +26,7 @@ impl Execution {
         requires { ∥ Holds (code_of at.code.now) self.old ∥₁ }
         ensures holds { ∥ Holds (code_of at.entry.code.now) self.new ∥₁ }
         ensures reaches { (events : List Kind) → Reaches (code_of at.entry.code.now) at.entry.count at.entry.me.no (control_of self.old) (data_with self.old events 0) (control_of self.new) (data_with self.new events 0) }
+        ensures sent { self.new.sent ≡ self.old.sent }
         ensures stands { StandsBefore (code_of at.entry.code.now) at.entry.count at.entry.me.no self.new result }
     {
         'steps: loop {
