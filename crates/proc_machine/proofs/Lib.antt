@@ -12,3 +12,4 @@ pub mod Running
 pub mod Starting
 pub mod Sets
 pub mod Standings
+pub mod Pending
