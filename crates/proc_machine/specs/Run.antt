@@ -1,7 +1,9 @@
 -- Running on to the next event.
-use Rattle.std.specs.Prelude.{◌≡◌, ℕ, suc, ◌+◌, ◌-◌, ◌*◌, ◌<◌, Bool, true, false, List, [], ◌∷◌, length, Option, Some, None, slice_get, IsTrue, if◌then◌else◌}
+use Rattle.std.specs.Prelude.{◌≡◌, ℕ, suc, ◌+◌, ◌-◌, ◌*◌, ◌<◌, Bool, true, false, List, [], ◌∷◌, length, Option, Some, None, slice_get, option_map, IsTrue, if◌then◌else◌}
 use Rattle.nm_base.specs.declared.kind.Kind.{Kind}
 use Rattle.nm_base.specs.declared.kind.Kind.TheVariants as kind
+use Rattle.nm_base.specs.declared.letter.Letter.{Letter}
+use Rattle.nm_base.specs.Message.{message_of}
 use Rattle.c_tree.specs.State.{State, Over, Done, Stopped}
 use Rattle.stack_code.specs.declared.instr.Instr.{Instr}
 use Rattle.stack_code.specs.declared.instr.Instr.TheVariants as instr
@@ -62,3 +64,21 @@ pub record GoesOn (code : Code) (count me : ℕ) (old new : Execution) : Type 0 
 abbrev pub Steps : Code → ℕ → ℕ → Execution → Execution → Option Pause → Type 0
 Steps code count me old new None = GoesOn code count me old new
 Steps code count me old new (Some next) = (new ≡ old) × StandsBefore code count me old next
+
+-- an event is made, and the run goes on to just before the next
+pub record After (code : Code) (count me : ℕ) (old new : Execution) (made : Kind) (next : Pause) : Type 0 where
+  pub middle : Execution
+  pub makes : (events : List Kind) → step code count me (control_of old) (data_with old events 1) ≡ Done (control_of middle) (data_with middle (made ∷ events) 0)
+  pub reaches : (events : List Kind) → Reaches code count me (control_of middle) (data_with middle events 0) (control_of new) (data_with new events 0)
+  pub stands : StandsBefore code count me new next
+
+-- a letter is accepted, and the run goes on to just before the next event
+pub record Accepts (code : Code) (count me : ℕ) (old new : Execution) (set : ℕ) (letter : Letter) (next : Pause) : Type 0 where
+  pub middle : Execution
+  pub takes : (events : List Kind) → step code count me (control_of old) (record (data_with old events 1) { inputs = message_of letter ∷ [] }) ≡ Done (control_of middle) (data_with middle (kind.Accepted set letter.id ∷ events) 0)
+  pub reaches : (events : List Kind) → Reaches code count me (control_of middle) (data_with middle events 0) (control_of new) (data_with new events 0)
+  pub stands : StandsBefore code count me new next
+
+-- the instruction at which it stands
+abbrev pub instr_at : Code → Execution → Option Instr
+instr_at code e = option_map (λ (x : Placed). x.instr) (slice_get (steps_of code e.frame.function) e.frame.place)

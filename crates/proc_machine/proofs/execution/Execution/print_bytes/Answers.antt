@@ -22,8 +22,8 @@ push_printed-requires-clause-words c =
         let P : List ℕ → Type 0 = λ l. get_or l k d < 2 ^ 32 in
         subst P (sym c.last.ensures) small
 
-pub returns : goal.returns
-returns c =
+pub returns-clause-made : goal.returns-clause-made
+returns-clause-made c =
     let e = c.args.self.now in
     let own = e.calls.own in
     let code = code_of c.args.at.code.now in
