@@ -13,3 +13,4 @@ pub mod Starting
 pub mod Sets
 pub mod Standings
 pub mod Pending
+pub mod Onwards

@@ -53,7 +53,7 @@ within_by code e h = ∥∥₁_elim h (hlevel props) (λ k. is_there code 0 0 e 
 
 -- ---- what is shown
 
-by_shown : (code : Code) (count me : ℕ) (c : Control) (r : Outcome Control) → pause_by (shown code count me c r) ≡ pause_by r
+pub by_shown : (code : Code) (count me : ℕ) (c : Control) (r : Outcome Control) → pause_by (shown code count me c r) ≡ pause_by r
 by_shown code count me c (Done d u) = refl
 by_shown code count me c (Stopped Able u) = refl
 by_shown code count me c (Stopped (Wants set) u) = refl
