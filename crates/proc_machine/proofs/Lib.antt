@@ -14,3 +14,5 @@ pub mod Sets
 pub mod Standings
 pub mod Pending
 pub mod Onwards
+pub mod Alikes
+pub mod Begins

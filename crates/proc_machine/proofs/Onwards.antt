@@ -140,7 +140,7 @@ module _ (code : Code) (count me : ℕ) where
   kept_both e true n h k = ∥∥₁_map k (both_kept e n h)
   kept_both e false n h k = absurd (∥∥₁_elim k no_proof (never_large e n h))
 
-  kept_new : (e : Execution) (n : Pause) → ∥ Holds code e ∥₁ → StandsBefore code count me e n → Kept e true n
+  pub kept_new : (e : Execution) (n : Pause) → ∥ Holds code e ∥₁ → StandsBefore code count me e n → Kept e true n
   kept_new e pause.Done h s = ∣ tt ∣₁
   kept_new e n h s = ∥∥₁_map h (λ x. (x, s))
 

@@ -181,7 +181,7 @@ module _ (code : Code) (count me : ℕ) where
   pub not_done : (e : Execution) (n : Pause) → StandsBefore code count me e n → n ≡ pause.Done → ⊥
   not_done e n h is = done_never (step code count me (control_of e) (data_with e [] 1)) (h.next_is [] ∙ ap Some is)
 
-  stand_is : (e : Execution) (n : Pause) (events : List Kind) → (n ≡ pause.Done → ⊥) → stand code count me e true n events ≡ Done (control_of e) (data_with e events 0)
+  pub stand_is : (e : Execution) (n : Pause) (events : List Kind) → (n ≡ pause.Done → ⊥) → stand code count me e true n events ≡ Done (control_of e) (data_with e events 0)
   stand_is e pause.Done events h = absurd (h refl)
   stand_is e (pause.Line line) events h = refl
   stand_is e pause.Send events h = refl

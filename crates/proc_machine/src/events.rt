@@ -16,7 +16,7 @@ use crate::execution::{Execution, Setting};
 use crate::messages::conversions;
 use crate::printing::push_printed;
 use crate::words::word_or_zero;
-use nm_base::{Letter, LetterId, ProcNo, Stamp};
+use nm_base::{Kind, Letter, LetterId, ProcNo, Stamp};
 
 impl Execution {
     /// Comes to a line.
@@ -100,4 +100,17 @@ fn padded(words: &[u64]) -> [u32; 8]
         padded[i] = word_or_zero(words, i);
     }
     padded
+}
+
+/// The event that sends a letter.
+pub(crate) fn sent_by(letter: &Letter) -> Kind
+    ensures { result ≡ sent_by letter.now }
+{
+    Kind::Sent {
+        number: letter.id.number,
+        dest: letter.dest,
+        chan: letter.chan,
+        len: letter.len,
+        words: letter.words,
+    }
 }

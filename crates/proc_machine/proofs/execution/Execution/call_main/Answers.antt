@@ -1,4 +1,4 @@
-use Rattle.std.proofs.Common.{◌≡◌, ◌≤◌, ◌+◌, ◌++◌, [], length, take, replicate, Some, IsTrue, sym, ap, ◌∙◌, arith}
+use Rattle.std.proofs.Common.{◌≡◌, ◌≤◌, ◌+◌, ◌++◌, [], length, take, replicate, Some, IsTrue, refl, sym, ap, ◌∙◌, arith}
 use Rattle.std.specs.Prelude.{slice_get, option_map}
 use Rattle.std.proofs.Math.Logic.{∥∥₁_map}
 use Rattle.stack_code.specs.Frame.{frame_of}
@@ -20,4 +20,4 @@ returns c =
     let opened = c.open.ensures ∙ ap (λ l. l ++ take f.frame_words ([] ++ replicate f.frame_words 0)) c.requires.words ∙ ap (λ n. code.globals ++ take n ([] ++ replicate n 0)) (sym size) in
     let within : IsTrue (is_within code) = c.args.code.now.within in
     (∥∥₁_map c.args.code.now.sound (λ s. holds_fresh code e c.requires c.open.new.self main.0 main.1 fits s within),
-      λ count me. main_called code e c.requires c.open.new.self main.0 main.1 fits count me opened)
+      λ count me. main_called code e c.requires c.open.new.self main.0 main.1 fits count me opened, refl)
