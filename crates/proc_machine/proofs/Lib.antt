@@ -16,3 +16,4 @@ pub mod Pending
 pub mod Onwards
 pub mod Alikes
 pub mod Begins
+pub mod Knows

@@ -1,15 +1,16 @@
 //! An event, and the run to the next.
 
-ghost use Rattle.std.specs.Prelude.{◌≡◌, ℕ, ◌+◌, ◌<◌, ◌≤◌, ◌^◌, replicate, slice_index, Some, IsTrue};
+ghost use Rattle.std.specs.Prelude.{◌≡◌, ℕ, ◌+◌, ◌<◌, ◌≤◌, ◌^◌, replicate, slice_get, slice_index, Some, IsTrue};
 ghost use Rattle.std.specs.Vec.{vec_len, vec_capacity};
 ghost use Rattle.nm_base.specs.declared.kind.Kind.TheVariants as kind;
 ghost use Rattle.stack_code.specs.declared.instr.Instr.TheVariants as instr;
+ghost use Rattle.stack_code.specs.Code.{steps_of};
 ghost use Rattle.stack_code.specs.View.{code_of};
 ghost use Rattle.proc_machine.specs.declared.pause.Pause.TheVariants as pause;
 ghost use Rattle.proc_machine.specs.Ready.{is_addressed, has_room};
 ghost use Rattle.proc_machine.specs.Sound.{Holds};
 ghost use Rattle.proc_machine.specs.View.{sent_by};
-ghost use Rattle.proc_machine.specs.Run.{After, Accepts, StandsBefore, instr_at};
+ghost use Rattle.proc_machine.specs.Run.{After, Accepts, instr_at, waits_at};
 
 use crate::execution::{Execution, Setting};
 use crate::pause::Pause;
@@ -20,7 +21,7 @@ impl Execution {
     /// How many words the send at which it stands has.
     pub(crate) fn words_to_send(&self, at: Setting<'_>) -> u32
         requires holds { ∥ Holds (code_of at.code.now) self.now ∥₁ }
-        requires stands { StandsBefore (code_of at.code.now) at.count at.me.no self.now pause.Send }
+        requires waits { IsTrue (waits_at (slice_get (steps_of (code_of at.code.now) self.now.frame.function) self.now.frame.place) pause.Send) }
         ensures { instr_at (code_of at.entry.code.now) self.now ≡ Some (instr.Send result) }
     {
         match at.code.instr(self.frame.function, self.frame.place) {
@@ -32,7 +33,7 @@ impl Execution {
     /// Which text it prints next.
     pub(crate) fn text_to_print(&self, at: Setting<'_>) -> u32
         requires holds { ∥ Holds (code_of at.code.now) self.now ∥₁ }
-        requires stands { StandsBefore (code_of at.code.now) at.count at.me.no self.now pause.Print }
+        requires waits { IsTrue (waits_at (slice_get (steps_of (code_of at.code.now) self.now.frame.function) self.now.frame.place) pause.Print) }
         ensures { instr_at (code_of at.entry.code.now) self.now ≡ Some (instr.Print result) }
     {
         match at.code.instr(self.frame.function, self.frame.place) {
