@@ -26,7 +26,7 @@ use Rattle.proc_machine.specs.Run.{Reaches, StandsBefore, After, Accepts, instr_
 use Rattle.proc_machine.specs.Standing.{IsTooLarge, IsKept, ComesTo}
 use Rattle.proc_machine.proofs.Sending.{send_faults, print_faults, word_bounds}
 use Rattle.proc_machine.proofs.Stepping.{by_shown, step_of, holds_after, ready_by}
-use Rattle.proc_machine.proofs.Standings.{goes_through, ends_there, ends_large, not_done}
+use Rattle.proc_machine.proofs.Standings.{goes_through}
 
 module _ (code : Code) (count me : ℕ) where
   module _ (old mid new : Execution) (i : Instr) (is : instr_at code old ≡ Some i) where

@@ -217,18 +217,18 @@ module _ (code : Code) (count me : ℕ) where
   abbrev over_at : State → Outcome Control
   over_at s = Stopped Over s
 
+  stopped_same : (s t : State) → able_at s ≡ able_at t → s ≡ t
+  stopped_same s t h = cc
+
+  never_able : (s t : State) → over_at s ≡ able_at t → ⊥
+  never_able s t h = cc
+
   -- the fault of a main that has no room
-  pub ends_large : (e : Execution) → IsTooLarge code e → (inputs : List Message) (events : List Kind) → Comes e false (pause.Fault DataFull) inputs events → Comes e false pause.Done inputs (kind.Faulted DataFull ∷ events)
-  ends_large e large inputs [] c =
+  pub ends_large : (e : Execution) → IsTooLarge code e → (inputs : List Message) → Comes e false (pause.Fault DataFull) inputs [] → run inputs 1 0 ≡ Stopped Over (record (data_with e (kind.Faulted DataFull ∷ []) 0) { frames = [] })
+  ends_large e large inputs c =
       let same : first_data code count me inputs 0 ≡ record (data_with e [] 0) { frames = [] } = stopped_same (first_data code count me inputs 0) (record (data_with e [] 0) { frames = [] }) (sym (large_stops e large inputs c.steps) ∙ c.comes) in
-      record {
-        steps = 0;
-        comes = large_ends e large inputs 0 0 ∙ ap (λ (s : State). Stopped Over (record s { events = kind.Faulted DataFull ∷ [] })) same;
-      }
-    where
-      stopped_same : (s t : State) → able_at s ≡ able_at t → s ≡ t
-      stopped_same s t h = cc
-  ends_large e large inputs (k ∷ events) c = absurd (never_able (record (first_data code count me inputs (length events)) { events = kind.Faulted DataFull ∷ [] }) (record (data_with e (k ∷ events) 0) { frames = [] }) (sym (large_ends e large inputs (length events) c.steps) ∙ c.comes))
-    where
-      never_able : (s t : State) → over_at s ≡ able_at t → ⊥
-      never_able s t h = cc
+      large_ends e large inputs 0 0 ∙ ap (λ (s : State). Stopped Over (record s { events = kind.Faulted DataFull ∷ [] })) same
+
+  pub never_later : (e : Execution) → IsTooLarge code e → (inputs : List Message) (k : Kind) (events : List Kind) → Comes e false (pause.Fault DataFull) inputs (k ∷ events) → ⊥
+  never_later e large inputs k events c =
+      never_able (record (first_data code count me inputs (length events)) { events = kind.Faulted DataFull ∷ [] }) (record (data_with e (k ∷ events) 0) { frames = [] }) (sym (large_ends e large inputs (length events) c.steps) ∙ c.comes)
