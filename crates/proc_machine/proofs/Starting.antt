@@ -19,7 +19,6 @@ use Rattle.proc_machine.specs.Sound.{IsSoundAt, Holds}
 use Rattle.proc_machine.specs.Standing.{IsFresh}
 use Rattle.proc_machine.proofs.Sending.{has_room}
 
-
 module _ (code : Code) (e : Execution) (fresh : IsFresh code e) (words : List ℕ) where
   abbrev new : Execution
   new = record e { words = words }
