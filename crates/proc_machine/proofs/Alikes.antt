@@ -1,12 +1,12 @@
 -- Executions that differ at most in their memory.
-use Rattle.std.proofs.Common.{◌≡◌, ℕ, Bool, true, false, List, [], ◌∷◌, Vec, Global, Some, refl, sym, ap, ◌∙◌}
+use Rattle.std.proofs.Common.{◌≡◌, ℕ, Bool, true, false, List, [], ◌∷◌, Vec, Global, sym, ap, ◌∙◌}
 use Rattle.std.proofs.Math.Logic.{∥∥₁_map}
 use Rattle.nm_base.specs.declared.kind.Kind.{Kind}
 use Rattle.nm_base.specs.declared.kind.Kind.TheVariants as kind
 use Rattle.nm_base.specs.Message.{Message}
-use Rattle.c_tree.specs.State.{State, Able, Over, Outcome, Done, Stopped}
+use Rattle.c_tree.specs.State.{State, Able, Over, Done, Stopped}
 use Rattle.stack_code.specs.Code.{Code}
-use Rattle.stack_code.specs.Machine.{Control, filled, blocks_of, step, run_code}
+use Rattle.stack_code.specs.Machine.{filled, blocks_of, step}
 use Rattle.proc_machine.specs.declared.execution.Execution.{Execution}
 use Rattle.proc_machine.specs.declared.pause.Pause.{Pause}
 use Rattle.proc_machine.specs.declared.pause.Pause.TheVariants as pause
@@ -14,7 +14,7 @@ use Rattle.proc_machine.specs.Pauses.{status_of, pause_by}
 use Rattle.proc_machine.specs.View.{control_of, data_with}
 use Rattle.proc_machine.specs.Sound.{Holds}
 use Rattle.proc_machine.specs.Run.{StandsBefore, IsLastThere}
-use Rattle.proc_machine.specs.Standing.{IsFresh, IsTooLarge, IsKept, shown_state, stand, ComesTo}
+use Rattle.proc_machine.specs.Standing.{IsFresh, IsKept, shown_state, stand, ComesTo}
 
 module _ (code : Code) (count me : ℕ) (a : Execution) (o : Vec ℕ Global) (same : o.items ≡ a.output.items) where
   abbrev b : Execution

@@ -1,10 +1,9 @@
 -- How a machine begins, and the frames that it shows.
-use Rattle.std.proofs.Common.{◌≡◌, ℕ, zero, suc, ◌+◌, ◌-◌, ◌<◌, ◌≤◌, Bool, true, false, List, [], ◌∷◌, length, Option, Some, None, refl, sym, ap, ◌∙◌, subst, arith}
+use Rattle.std.proofs.Common.{◌≡◌, ℕ, zero, suc, ◌+◌, ◌-◌, ◌<◌, ◌≤◌, Bool, true, false, List, [], ◌∷◌, length, Some, refl, sym, ap, ◌∙◌, subst, arith}
 use Rattle.std.specs.Prelude.{slice_get}
-use Rattle.nm_base.specs.declared.kind.Kind.{Kind}
-use Rattle.c_tree.specs.State.{State, Outcome, Done}
+use Rattle.c_tree.specs.State.{Done}
 use Rattle.stack_code.specs.Code.{Code}
-use Rattle.stack_code.specs.Machine.{Caller, Control, with_blocks, later_blocks, outer_blocks, run_code}
+use Rattle.stack_code.specs.Machine.{with_blocks, later_blocks, outer_blocks, run_code}
 use Rattle.proc_machine.specs.declared.callers.Caller.{Caller as KeptCaller}
 use Rattle.proc_machine.specs.declared.execution.Execution.{Execution}
 use Rattle.proc_machine.specs.declared.pause.Pause.{Pause}

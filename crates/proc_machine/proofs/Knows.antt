@@ -1,5 +1,5 @@
 -- What a machine knows before each event, and that it is right afterwards.
-use Rattle.std.proofs.Common.{◌≡◌, ℕ, ℤ, suc, ◌+◌, ◌<◌, ◌≤◌, Bool, true, false, List, [], ◌∷◌, ◌++◌, Option, Some, None, refl, sym, ap, ◌∙◌, subst, arith}
+use Rattle.std.proofs.Common.{◌≡◌, ℕ, ℤ, ◌<◌, Bool, true, false, List, [], ◌∷◌, Option, Some, None, refl, sym, ap, subst}
 use Rattle.std.proofs.Math.Logic.{∥∥₁_elim, ∥∥₁_map}
 use Rattle.std.proofs.lemmas.List.{append-nil}
 use Rattle.std.proofs.lemmas.Bool.{eqb-true}
@@ -24,11 +24,11 @@ use Rattle.proc_machine.specs.Pauses.{pause_of}
 use Rattle.proc_machine.specs.Ready.{is_addressed, has_room}
 use Rattle.proc_machine.specs.Sound.{Holds}
 use Rattle.proc_machine.specs.Run.{StandsBefore, instr_at, waits_at}
-use Rattle.proc_machine.specs.Standing.{IsTooLarge, IsKept, ComesTo, shown_state}
+use Rattle.proc_machine.specs.Standing.{IsKept, ComesTo, shown_state}
 use Rattle.proc_machine.proofs.Sets.{Outcome-set}
 use Rattle.proc_machine.proofs.Stepping.{ready_by}
 use Rattle.proc_machine.proofs.Standings.{ends_there, ends_large, never_later}
-use Rattle.proc_machine.proofs.Onwards.{leads, not_over, kept_both, addressed_is, has_room_is, set_is}
+use Rattle.proc_machine.proofs.Onwards.{leads, kept_both, addressed_is, has_room_is, set_is}
 
 Instr-set : IsSet (Option Instr)
 Instr-set = hlevel props

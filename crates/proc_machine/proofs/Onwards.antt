@@ -1,31 +1,29 @@
 -- An event, and the run to the next.
-use Rattle.std.proofs.Common.{◌≡◌, ℕ, zero, suc, ◌+◌, ◌<◌, ◌≤◌, Bool, true, false, List, [], ◌∷◌, ◌++◌, length, Option, Some, None, refl, sym, ap, ◌∙◌, subst, arith}
+use Rattle.std.proofs.Common.{◌≡◌, ℕ, zero, suc, ◌<◌, Bool, true, false, List, [], ◌∷◌, ◌++◌, Some, refl, sym, ap, ◌∙◌, subst, arith}
 use Rattle.std.proofs.Math.Logic.{∥∥₁_elim, ∥∥₁_map}
 use Rattle.std.proofs.lemmas.List.{append-nil}
 use Rattle.std.proofs.Props.{props}
-use Rattle.std.proofs.lemmas.Bool.{eqb-true}
-use Rattle.std.specs.Prelude.{IsTrue, option_map, slice_get, slice_index, unwrap_or, ◌==◌}
+use Rattle.std.specs.Prelude.{slice_index}
 use Rattle.nm_base.specs.declared.kind.Kind.{Kind}
 use Rattle.nm_base.specs.declared.kind.Kind.TheVariants as kind
 use Rattle.nm_base.specs.declared.letter.Letter.{Letter}
 use Rattle.nm_base.specs.Message.{Message, message_of}
-use Rattle.c_tree.specs.State.{State, Status, Able, Wants, Over, Outcome, Done, Stopped}
 use Rattle.stack_code.specs.declared.instr.Instr.{Instr}
 use Rattle.stack_code.specs.declared.instr.Instr.TheVariants as instr
-use Rattle.stack_code.specs.Code.{Placed, Code, steps_of}
-use Rattle.stack_code.specs.Machine.{Control, top, below, act, shown, step, push, conversions, text_at}
+use Rattle.stack_code.specs.Code.{Code}
+use Rattle.stack_code.specs.Machine.{top, below, act, shown, push, conversions, text_at}
 use Rattle.c_tree.specs.Expr.{receive}
 use Rattle.proc_machine.specs.declared.execution.Execution.{Execution}
 use Rattle.proc_machine.specs.declared.pause.Pause.{Pause}
 use Rattle.proc_machine.specs.declared.pause.Pause.TheVariants as pause
-use Rattle.proc_machine.specs.Pauses.{pause_by, pause_of}
+use Rattle.proc_machine.specs.Pauses.{pause_by}
 use Rattle.proc_machine.specs.Ready.{IsReady, is_addressed, has_room}
-use Rattle.proc_machine.specs.View.{control_of, data_with, Makes, Takes, waits}
+use Rattle.proc_machine.specs.View.{control_of, data_with, Makes, Takes}
 use Rattle.proc_machine.specs.Sound.{Holds}
-use Rattle.proc_machine.specs.Run.{Reaches, StandsBefore, After, Accepts, instr_at, waits_at}
-use Rattle.proc_machine.specs.Standing.{IsTooLarge, IsKept, ComesTo}
+use Rattle.proc_machine.specs.Run.{Reaches, StandsBefore, After, Accepts, instr_at}
+use Rattle.proc_machine.specs.Standing.{IsKept, ComesTo}
 use Rattle.proc_machine.proofs.Sending.{send_faults, print_faults, word_bounds}
-use Rattle.proc_machine.proofs.Stepping.{by_shown, step_of, holds_after, ready_by}
+use Rattle.proc_machine.proofs.Stepping.{by_shown, step_of, holds_after}
 use Rattle.proc_machine.proofs.Standings.{goes_through}
 
 module _ (code : Code) (count me : ℕ) where

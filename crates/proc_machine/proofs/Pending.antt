@@ -1,18 +1,17 @@
 -- What a machine does next.
-use Rattle.std.proofs.Common.{◌≡◌, ℕ, Bool, true, false, List, refl, ap}
+use Rattle.std.proofs.Common.{Bool, true, false, List}
 use Rattle.std.proofs.Math.Logic.{∥∥₁_elim}
 use Rattle.nm_base.specs.declared.kind.Kind.{Kind}
 use Rattle.nm_base.specs.Message.{Message}
-use Rattle.stack_code.specs.Code.{Code}
 use Rattle.stack_code.specs.View.{code_of}
 use Rattle.proc_machine.specs.declared.execution.Execution.{Execution}
 use Rattle.proc_machine.specs.declared.machine.Machine.{Machine}
 use Rattle.proc_machine.specs.declared.pause.Pause.{Pause}
 use Rattle.proc_machine.specs.declared.pause.Pause.TheVariants as pause
-use Rattle.proc_machine.specs.Standing.{IsKept, ComesTo, shown_state}
-use Rattle.proc_machine.specs.Machines.{Setting, StandsFor, Expects, MakesNext, setting_of, state_of, next_of}
+use Rattle.proc_machine.specs.Standing.{IsKept, ComesTo}
+use Rattle.proc_machine.specs.Machines.{Setting, StandsFor, Expects, MakesNext, setting_of, state_of}
 use Rattle.proc_machine.proofs.Sets.{Pause-set}
-use Rattle.proc_machine.proofs.Standings.{stops, MakesIt, makes_begun, makes_large}
+use Rattle.proc_machine.proofs.Standings.{stops, makes_begun, makes_large}
 
 pub stops_of : (m : Machine) (inputs : List Message) (events : List Kind) → StandsFor m inputs events → Expects (setting_of m) inputs events m.next (state_of m events)
 stops_of m inputs events s =

@@ -1,5 +1,5 @@
 -- Sends, receives and prints stand before their events, or before a fault.
-use Rattle.std.proofs.Common.{◌≡◌, ℕ, zero, suc, ◌+◌, ◌-◌, ◌<◌, ◌≤◌, ◌^◌, get_or, Bool, true, false, List, [], ◌∷◌, ◌++◌, length, take, drop, reverse, replicate, Option, Some, None, refl, sym, ap, ◌∙◌, subst, arith, rules, tests, append_assoc, Vec, Global, Ok, lit<}
+use Rattle.std.proofs.Common.{◌≡◌, ℕ, zero, suc, ◌+◌, ◌-◌, ◌<◌, ◌≤◌, ◌^◌, get_or, Bool, true, false, List, [], ◌∷◌, ◌++◌, length, take, drop, reverse, refl, sym, ap, ◌∙◌, subst, arith, rules, tests, Vec, Global, Ok, lit<}
 use Rattle.std.proofs.lemmas.Bool.{ltb-true, leb-true}
 use Rattle.std.specs.Prelude.{IsTrue, nat_lt, nat_le, ◌&&◌, slice_index}
 use Rattle.std.proofs.lemmas.List.{append-nil, reverse-append, length-reverse, length-take, get_or-reverse}
@@ -9,7 +9,7 @@ use Rattle.nm_base.specs.declared.kind.Kind.{Kind}
 use Rattle.nm_base.specs.declared.letter.Letter.{Letter}
 use Rattle.stack_code.specs.declared.instr.Instr.TheVariants as instr
 use Rattle.stack_code.specs.Code.{Code}
-use Rattle.c_tree.specs.State.{State, Done, Run, ◌>>=◌, ◌>>◌, pure, read, change, happen}
+use Rattle.c_tree.specs.State.{Done, Run, ◌>>=◌, ◌>>◌, pure, read, change, happen}
 use Rattle.c_tree.specs.Print.{printed}
 use Rattle.c_tree.specs.Expr.{demand, padded, send, send_words, print}
 use Rattle.stack_code.specs.Machine.{Control, popped, push, next}

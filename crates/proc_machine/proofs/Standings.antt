@@ -1,17 +1,17 @@
 -- Where a machine stands, and how it goes on.
-use Rattle.std.proofs.Common.{◌≡◌, ◌≢◌, ℕ, zero, suc, ◌+◌, Bool, true, false, List, [], ◌∷◌, ◌++◌, length, Option, Some, None, refl, sym, ap, ◌∙◌, subst, arith}
-use Rattle.std.proofs.Math.Logic.{∥∥₁_elim, ∥∥₁_map}
+use Rattle.std.proofs.Common.{◌≡◌, ℕ, zero, suc, ◌+◌, Bool, true, false, List, [], ◌∷◌, ◌++◌, length, Option, Some, None, refl, sym, ap, ◌∙◌, arith}
+use Rattle.std.proofs.Math.Logic.{∥∥₁_elim}
 use Rattle.std.specs.Prelude.{slice_get, nat_le, option_map}
 use Rattle.std.proofs.lemmas.List.{append-nil}
 use Rattle.nm_base.specs.declared.kind.Kind.{Kind}
 use Rattle.nm_base.specs.declared.kind.Kind.TheVariants as kind
 use Rattle.nm_base.specs.declared.kind.FaultCause.TheVariants.{DataFull}
 use Rattle.nm_base.specs.Message.{Message, message_of}
-use Rattle.c_tree.specs.State.{State, Status, Able, Wants, Over, Outcome, Done, Stopped, Run, change, then_on}
+use Rattle.c_tree.specs.State.{State, Status, Able, Wants, Over, Outcome, Done, Stopped, change, then_on}
 use Rattle.c_tree.specs.Expr.{demand}
 use Rattle.stack_code.specs.Code.{FunctionCode, Code}
 use Rattle.stack_code.specs.Law as law
-use Rattle.stack_code.specs.Machine.{Control, filled, blocks_of, step, exec, started_by, open_frame, new_frame, first_data, run_code}
+use Rattle.stack_code.specs.Machine.{Control, step, exec, started_by, new_frame, first_data, run_code}
 use Rattle.stack_code.proofs.Law.{step_more}
 use Rattle.proc_machine.specs.declared.execution.Execution.{Execution}
 use Rattle.proc_machine.specs.declared.pause.Pause.{Pause}

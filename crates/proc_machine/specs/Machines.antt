@@ -8,7 +8,6 @@ use Rattle.nm_base.specs.declared.letter.Letter.{Letter}
 use Rattle.nm_base.specs.Message.{Message, message_of}
 use Rattle.c_tree.specs.State.{State, Stopped}
 use Rattle.c_tree.specs.State as state
-use Rattle.stack_code.specs.declared.seek.CodePlace.{CodePlace}
 use Rattle.stack_code.specs.Code.{Code}
 use Rattle.stack_code.specs.Machine.{Caller, Control, run_code}
 use Rattle.stack_code.specs.View.{code_of}

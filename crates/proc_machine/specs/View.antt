@@ -1,5 +1,5 @@
 -- What the definitions of the machine see of an execution.
-use Rattle.std.specs.Prelude.{◌≡◌, ℕ, zero, suc, ◌+◌, ◌-◌, ◌<◌, ◌≤◌, ◌^◌, slice_get, IsTrue, Bool, true, false, ◌==◌, List, [], ◌∷◌, ◌++◌, length, take, drop, reverse, replicate, Option, Some, None, option_map, Result, Ok, Err}
+use Rattle.std.specs.Prelude.{◌≡◌, ℕ, zero, suc, ◌+◌, ◌<◌, ◌≤◌, ◌^◌, slice_get, IsTrue, Bool, true, false, ◌==◌, List, [], ◌∷◌, ◌++◌, length, take, drop, reverse, replicate, Option, Some, None, option_map, Result, Ok, Err}
 use Rattle.nm_base.specs.declared.kind.Kind.{Kind}
 use Rattle.nm_base.specs.declared.kind.Kind.TheVariants as kind
 use Rattle.nm_base.specs.declared.kind.FaultCause.{FaultCause}
@@ -17,7 +17,7 @@ use Rattle.proc_machine.specs.declared.callers.Caller.{Caller as KeptCaller}
 use Rattle.proc_machine.specs.declared.execution.Execution.{Execution}
 use Rattle.proc_machine.specs.declared.pause.Pause.{Pause}
 use Rattle.proc_machine.specs.declared.pause.Pause.TheVariants as pause
-use Rattle.proc_machine.specs.Stacked.{OperandStack, upper, lower}
+use Rattle.proc_machine.specs.Stacked.{upper, lower}
 use Rattle.proc_machine.specs.Pauses.{status_of, pause_by}
 
 -- the callers, whose operands stand one on the other

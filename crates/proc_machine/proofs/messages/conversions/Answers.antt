@@ -1,4 +1,4 @@
-use Rattle.std.proofs.Common.{◌≡◌, ℕ, Bool, true, false, ◌+◌, ◌∷◌, drop, get_or, refl, sym, ap, ◌∙◌, arith, rules, tests}
+use Rattle.std.proofs.Common.{◌≡◌, ℕ, false, ◌+◌, drop, get_or, sym, ap, ◌∙◌, arith, rules, tests}
 use Rattle.std.specs.Prelude.{◌==◌}
 use Rattle.c_tree.specs.Typing.{conversions_from}
 use Rattle.proc_machine.proofs.Counts.{and_so_many, outside_sign, after_sign, is_one}

@@ -1,9 +1,7 @@
 use Rattle.stack_code.specs.declared.instr.Instr.TheVariants as instr
-use Rattle.nm_base.specs.declared.kind.Kind.TheVariants as kind
 use Rattle.stack_code.specs.View.{code_of}
-use Rattle.proc_machine.specs.View.{sent_by}
 use Rattle.proc_machine.proofs.Stepping.{ready_by}
-use Rattle.proc_machine.proofs.Onwards.{after_by, holds_made, accepts_by, holds_taken}
+use Rattle.proc_machine.proofs.Onwards.{accepts_by, holds_taken}
 use Rattle.proc_machine.proofs.execution.Execution.go_past_receive.Goals as goal
 
 pub take_letter-requires-clause-ready : goal.take_letter-requires-clause-ready

@@ -4,7 +4,6 @@ use Rattle.std.proofs.lemmas.Bool.{leb-true}
 use Rattle.c_tree.specs.Print.{printed}
 use Rattle.stack_code.specs.Machine.{conversions}
 use Rattle.stack_code.specs.View.{code_of}
-use Rattle.proc_machine.specs.declared.execution.Execution.{Execution}
 use Rattle.proc_machine.specs.View.{given}
 use Rattle.proc_machine.specs.Ready.{bytes_of}
 use Rattle.proc_machine.proofs.Sending.{is_below, taken_words, print_makes}

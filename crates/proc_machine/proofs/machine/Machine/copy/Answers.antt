@@ -1,7 +1,5 @@
-use Rattle.std.proofs.Common.{◌≡◌, List, sym, subst}
+use Rattle.std.proofs.Common.{sym, subst}
 use Rattle.stack_code.specs.View.{code_of}
-use Rattle.nm_base.specs.declared.kind.Kind.{Kind}
-use Rattle.nm_base.specs.Message.{Message}
 use Rattle.proc_machine.specs.declared.execution.Execution.{Execution}
 use Rattle.proc_machine.specs.Standing.{IsKept, ComesTo}
 use Rattle.proc_machine.proofs.Alikes.{kept_alike, comes_alike}

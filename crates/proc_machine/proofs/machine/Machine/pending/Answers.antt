@@ -1,5 +1,3 @@
-use Rattle.std.proofs.Common.{◌≡◌}
-use Rattle.stack_code.specs.View.{code_of}
 use Rattle.proc_machine.proofs.Pending.{stops_of, makes_of}
 use Rattle.proc_machine.proofs.machine.Machine.pending.Goals as goal
 

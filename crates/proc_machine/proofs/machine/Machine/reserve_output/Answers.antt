@@ -1,4 +1,3 @@
-use Rattle.std.proofs.Common.{refl}
 use Rattle.stack_code.specs.View.{code_of}
 use Rattle.proc_machine.proofs.Alikes.{kept_alike, comes_alike}
 use Rattle.proc_machine.proofs.machine.Machine.reserve_output.Goals as goal

@@ -1,11 +1,10 @@
-use Rattle.std.proofs.Common.{◌≡◌, ◌≤◌, true, refl, sym, ap, ◌∙◌, subst, arith}
+use Rattle.std.proofs.Common.{◌≡◌, true, refl, sym, subst, arith}
 use Rattle.stack_code.specs.View.{code_of}
-use Rattle.nm_base.specs.declared.kind.Kind.TheVariants as kind
 use Rattle.proc_machine.specs.declared.pause.Pause.{Pause}
 use Rattle.proc_machine.specs.declared.pause.Pause.TheVariants as pause
 use Rattle.proc_machine.specs.View.{sent_by}
-use Rattle.proc_machine.proofs.Onwards.{leads, kept_on, after_comes, accepts_comes}
-use Rattle.proc_machine.proofs.Knows.{held, waits_is, at_line, at_receive, at_send, at_print, set_known, set_some}
+use Rattle.proc_machine.proofs.Onwards.{leads, kept_on, after_comes}
+use Rattle.proc_machine.proofs.Knows.{held, waits_is, at_send}
 use Rattle.proc_machine.proofs.machine.Machine.send.Goals as goal
 
 pub words_to_send-words-requires-clause-holds : goal.words_to_send-words-requires-clause-holds

@@ -1,11 +1,9 @@
-use Rattle.std.proofs.Common.{◌≡◌, ◌≤◌, true, refl, sym, ap, ◌∙◌, subst, arith}
+use Rattle.std.proofs.Common.{◌≡◌, true, refl, sym, subst}
 use Rattle.stack_code.specs.View.{code_of}
-use Rattle.nm_base.specs.declared.kind.Kind.TheVariants as kind
 use Rattle.proc_machine.specs.declared.pause.Pause.{Pause}
 use Rattle.proc_machine.specs.declared.pause.Pause.TheVariants as pause
-use Rattle.proc_machine.specs.View.{sent_by}
-use Rattle.proc_machine.proofs.Onwards.{leads, kept_on, after_comes, accepts_comes}
-use Rattle.proc_machine.proofs.Knows.{held, waits_is, at_line, at_receive, at_send, at_print, set_known, set_some}
+use Rattle.proc_machine.proofs.Onwards.{leads, kept_on, accepts_comes}
+use Rattle.proc_machine.proofs.Knows.{held, at_receive, set_known, set_some}
 use Rattle.proc_machine.proofs.machine.Machine.take.Goals as goal
 
 pub go_past_receive-self-requires-clause-holds : goal.go_past_receive-self-requires-clause-holds
