@@ -1,0 +1,15 @@
+//! Turns a syntax tree into a checked program, or names a rule that it breaks.
+#![tactic(auto)]
+
+mod constants;
+mod entries;
+mod fault;
+mod headings;
+mod state;
+mod types;
+
+pub use constants::{Constant, evaluate};
+pub use entries::{Entries, Entry, Thing};
+pub use fault::CheckFault;
+pub use headings::{Heading, Headings};
+pub use state::{Around, Body, File};
