@@ -1,2 +1,5 @@
 mod Examples
+pub mod Calls
 pub mod Forms
+pub mod Found
+pub mod Unnamed

@@ -3,13 +3,18 @@
 
 mod constants;
 mod entries;
+mod expr;
 mod fault;
+mod format;
 mod headings;
+mod scope;
 mod state;
 mod types;
 
 pub use constants::{Constant, evaluate};
 pub use entries::{Entries, Entry, Thing};
+pub use expr::{line_of, value};
 pub use fault::CheckFault;
 pub use headings::{Heading, Headings};
+pub use scope::Scope;
 pub use state::{Around, Body, File};
