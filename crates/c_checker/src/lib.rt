@@ -1,6 +1,7 @@
 //! Turns a syntax tree into a checked program, or names a rule that it breaks.
 #![tactic(auto)]
 
+mod body;
 mod constants;
 mod entries;
 mod expr;
@@ -11,6 +12,7 @@ mod scope;
 mod state;
 mod types;
 
+pub use body::{begin_block, expression, optional};
 pub use constants::{Constant, evaluate};
 pub use entries::{Entries, Entry, Thing};
 pub use expr::{line_of, value};
