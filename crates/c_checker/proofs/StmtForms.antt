@@ -1,18 +1,22 @@
 -- What the definitions of statements say of each form.
-use Rattle.std.proofs.Common.{◌≡◌, ℕ, List, map, Option, Some, None, sym, ap, ◌∙◌}
+use Rattle.std.proofs.Common.{◌≡◌, ℕ, List, map, Option, Some, None, Result, subst, sym, ap, ◌∙◌}
 use Rattle.std.specs.Prelude.{option_map}
 use denote.Hole.Carrier.{out, roll}
 use Rattle.nm_base.specs.declared.operator.Ctype.{Ctype}
 use Rattle.c_tree.specs.declared.tree.Expr.{Expr}
 use Rattle.c_tree.specs.declared.tree.Vars.{Vars}
-use Rattle.c_tree.specs.declared.tree.Label.{Label}
 use Rattle.c_tree.specs.declared.tree.Arm.{Arm, roll-Arm, out-roll-Arm}
 use Rattle.c_tree.specs.declared.tree.Stmt.{Stmt, roll-Stmt, out-Stmt, out-roll-Stmt}
 use Rattle.c_tree.specs.declared.tree.Stmt.TheOpen.{Stmt-F, Arm-F}
 use Rattle.c_tree.specs.declared.tree.Stmt.TheVariants as s
 use Rattle.c_tree.specs.declared.tree.Stmt.TheBlock.{the_family, the_fold, body-Stmt, body-Arm, lays-Stmt, lays-Arm}
 use Rattle.c_tree.specs.declared.tree.Stmt.TheFolds.{family, steps, map-Stmt, map_is-Stmt, map-Arm, map_is-Arm}
+use Rattle.c_tree.specs.declared.program.PStmt.{PStmt}
+use Rattle.c_checker.specs.declared.fault.CheckFault.{CheckFault}
 use Rattle.c_checker.specs.declared.headings.Heading.{Heading}
+use Rattle.c_checker.specs.declared.state.Body.{Body}
+use Rattle.c_checker.specs.declared.state.Around.{Around}
+use Rattle.c_checker.specs.Found.{Gives}
 use Rattle.c_checker.specs.Statements.{StmtPart, ArmPart, stmt_step, arm_step, stmt_of, arm_of}
 
 module _ (functions : List Heading) (result : Option Ctype) where
@@ -68,5 +72,14 @@ module _ (functions : List Heading) (result : Option Ctype) where
   pub stmt_switch : (on : Expr) (arms : List Arm) (line : ℕ) → stmt_of functions result (s.Switch on arms line) ≡ stmt_step functions result (Stmt-F.Switch on (map (arm_of functions result) arms) line)
   stmt_switch on arms line = sym (ap (stmt_of functions result) (s.rolls-Switch on arms line)) ∙ stmt_roll (Stmt-F.Switch on arms line)
 
-  pub arm_form : (labels : List Label) (list : List Stmt) → arm_of functions result (record { labels = labels; list = list }) ≡ arm_step functions result (record { labels = labels; list = map (stmt_of functions result) list })
-  arm_form labels list = arm_roll (record { labels = labels; list = list })
+  pub arm_form : (x : Arm) → arm_of functions result x ≡ arm_step functions result (record { labels = x.labels; list = map (stmt_of functions result) x.list })
+  unfolding roll out
+  arm_form x = arm_roll (record { labels = x.labels; list = x.list })
+
+-- what a statement stands for, by its form
+pub check_form : (functions : List Heading) (result : Option Ctype) (x form : Stmt) (p : StmtPart) (around : Around) (s t : Body) (r : Result PStmt CheckFault) → x ≡ form → stmt_of functions result form ≡ p → Gives (p.check around s) r t → Gives ((stmt_of functions result x).check around s) r t
+check_form functions result x form p around s t r is same h = subst (λ (p : StmtPart). Gives (p.check around s) r t) (sym (ap (stmt_of functions result) is ∙ same)) h
+
+-- the same of a function's body
+pub body_form : (functions : List Heading) (result : Option Ctype) (x form : Stmt) (p : StmtPart) (from : ℕ) (s t : Body) (r : Result PStmt CheckFault) → x ≡ form → stmt_of functions result form ≡ p → Gives (p.body from s) r t → Gives ((stmt_of functions result x).body from s) r t
+body_form functions result x form p from s t r is same h = subst (λ (p : StmtPart). Gives (p.body from s) r t) (sym (ap (stmt_of functions result) is ∙ same)) h

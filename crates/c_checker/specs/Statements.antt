@@ -101,10 +101,17 @@ new_local of block d n = λ s. fine (slots s) (record s {
 
 -- ---- labels
 
+abbrev pub has_default : List PLabel → Bool
+has_default labels = list_any (λ l. is_none l.value) labels
+
+-- a case with this pattern
+abbrev pub has_case : List PLabel → ℕ → Bool
+has_case labels n = list_any (λ l. unwrap_or (option_map (λ m. m == n) l.value) false) labels
+
 -- the labels before it, and the pattern of a case
 abbrev pub label_faults : List PLabel → Option ℕ → ℕ → List CheckFault
-label_faults before None line = unless (not (list_any (λ l. is_none l.value) before)) (DoubleDefault line)
-label_faults before (Some n) line = unless (not (list_any (λ l. unwrap_or (option_map (λ m. m == n) l.value) false) before)) (DoubleCase line)
+label_faults before None line = unless (not (has_default before)) (DoubleDefault line)
+label_faults before (Some n) line = unless (not (has_case before n)) (DoubleCase line)
 
 -- a label after those of the switch before it
 abbrev pub new_label : {S : Type 0} → List PLabel → Option ℕ → ℕ → Check S (List PLabel)

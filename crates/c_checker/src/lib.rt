@@ -8,8 +8,11 @@ mod expr;
 mod fault;
 mod format;
 mod headings;
+mod heads;
+mod labels;
 mod scope;
 mod state;
+mod stmts;
 mod types;
 
 pub use body::{begin_block, expression, optional};
@@ -20,3 +23,4 @@ pub use fault::CheckFault;
 pub use headings::{Heading, Headings};
 pub use scope::Scope;
 pub use state::{Around, Body, File};
+pub use stmts::stmt;
