@@ -1,2 +1,7 @@
 mod Examples
 pub mod Forms
+pub mod TypedExprs
+pub mod TypedLists
+pub mod TypedParts
+pub mod TypedReads
+pub mod TypedSorts
