@@ -5,3 +5,7 @@ pub mod TypedLists
 pub mod TypedParts
 pub mod TypedReads
 pub mod TypedSorts
+pub mod TypedBodies
+pub mod TypedLocals
+pub mod TypedStmts
+pub mod TypedForms
