@@ -9,3 +9,6 @@ pub mod TypedBodies
 pub mod TypedLocals
 pub mod TypedStmts
 pub mod TypedForms
+pub mod TypedHeads
+pub mod TypedUnits
+pub mod TypedProgram

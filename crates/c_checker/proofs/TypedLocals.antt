@@ -72,7 +72,7 @@ variable_fits final params number x h g = by_length x.length h
     by_length None e = ap typing.sort_of_slot e ∙ ap (λ b. typing.named x.of (b || not true)) g
     by_length (Some n) e = ap typing.sort_of_slot e ∙ ap (λ b. typing.named x.of (b || not false)) g
 
-declr_is : (d : Declr) → declr_faults d ≡ [] → (is_name d.name ≡ true) × ((is_none d.size || is_none d.start) ≡ true)
+pub declr_is : (d : Declr) → declr_faults d ≡ [] → (is_name d.name ≡ true) × ((is_none d.size || is_none d.start) ≡ true)
 declr_is d h =
     let name = unless (is_name d.name) (TooMany d.line) in
     let array = unless (is_none d.size || is_none d.start) (NotScalar d.line) in
