@@ -29,7 +29,7 @@ constant_roll : (x : Expr-F Expr) → constant_of (roll-Expr x) ≡ constant_ste
 unfolding constant_of
 constant_roll x = laid_roll constant_step x
 
-part_roll : (names : Names) (x : Expr-F Expr) → part_of names (roll-Expr x) ≡ part_step names (map-Expr Expr Part (part_of names) x)
+pub part_roll : (names : Names) (x : Expr-F Expr) → part_of names (roll-Expr x) ≡ part_step names (map-Expr Expr Part (part_of names) x)
 unfolding part_of
 part_roll names x = laid_roll (part_step names) x
 

@@ -1,14 +1,17 @@
+pub mod Calls
 mod Examples
 pub mod Forms
-pub mod TypedExprs
-pub mod TypedLists
-pub mod TypedParts
-pub mod TypedReads
-pub mod TypedSorts
+pub mod Found
 pub mod TypedBodies
-pub mod TypedLocals
-pub mod TypedStmts
+pub mod TypedExprs
 pub mod TypedForms
 pub mod TypedHeads
-pub mod TypedUnits
+pub mod TypedLists
+pub mod TypedLocals
+pub mod TypedParts
 pub mod TypedProgram
+pub mod TypedReads
+pub mod TypedSorts
+pub mod TypedStmts
+pub mod TypedUnits
+pub mod Unnamed

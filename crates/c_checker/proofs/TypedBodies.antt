@@ -1,11 +1,10 @@
 -- What is known in a function's body fits the whole program, where no rule is broken.
-use Rattle.std.proofs.Common.{◌≡◌, ℕ, zero, suc, ◌+◌, ◌≤◌, Bool, true, false, List, [], ◌∷◌, ◌++◌, map, length, take, Option, Some, None, refl, sym, ap, ◌∙◌, subst, arith, append_assoc, length-append}
-use Rattle.std.specs.Prelude.{◌&&◌, nat_le, is_none, slice_get, if◌then◌else◌, codes}
+use Rattle.std.proofs.Common.{◌≡◌, ℕ, zero, suc, ◌≤◌, Bool, true, false, List, [], ◌∷◌, ◌++◌, length, take, Option, Some, None, refl, sym, ap, ◌∙◌, subst, append_assoc}
+use Rattle.std.specs.Prelude.{is_none, if◌then◌else◌, codes}
 use Rattle.std.specs.Str.{bytes_eq}
 use Rattle.std.specs.List.{list_all}
 use Rattle.c_tree.specs.declared.program.Slot.{Slot}
 use Rattle.c_tree.specs.declared.program.PExpr.{PExpr}
-use Rattle.c_tree.specs.declared.program.BuiltIn.TheVariants as b
 use Rattle.c_tree.specs.declared.tree.Expr.{Expr}
 use Rattle.c_tree.specs.Typing as typing
 use Rattle.c_tree.specs.Checks.{blocks_fit, local_fits}
@@ -13,17 +12,16 @@ use Rattle.c_checker.specs.declared.fault.CheckFault.{CheckFault}
 use Rattle.c_checker.specs.declared.headings.Heading.{Heading}
 use Rattle.c_checker.specs.declared.entries.Entry.{Entry}
 use Rattle.c_checker.specs.declared.entries.Thing.{Thing}
-use Rattle.c_checker.specs.declared.entries.Thing.TheVariants as t
 use Rattle.c_checker.specs.declared.state.Body.{Body}
-use Rattle.c_checker.specs.Found.{Found, pure, lift, note, unless, ◌>>=◌, ◌>>◌}
-use Rattle.c_checker.specs.Scope.{built_in, latest, find, params_of, names_of}
+use Rattle.c_checker.specs.Found.{Found, pure, lift, note, ◌>>=◌, ◌>>◌}
+use Rattle.c_checker.specs.Scope.{built_in, latest, find, params_of}
 use Rattle.c_checker.specs.Expressions.{part_of}
 use Rattle.c_checker.specs.Statements.{Writes, get, slots, visible, value, optional}
-use Rattle.c_checker.proofs.TypedLists.{Front, front_same, front_then, nil_left, nil_right, and_true}
-use Rattle.c_checker.proofs.TypedSorts.{IsValue, Used}
+use Rattle.c_checker.proofs.TypedLists.{Front, front_same, front_then, nil_left, nil_right}
+use Rattle.c_checker.proofs.TypedSorts.{Used}
 use Rattle.c_checker.proofs.TypedReads as reads
 use Rattle.c_checker.proofs.TypedReads.{AllShort}
-use Rattle.c_checker.proofs.TypedParts.{ThingFits, NamesFit, PartFits}
+use Rattle.c_checker.proofs.TypedParts.{ThingFits, NamesFit}
 use Rattle.c_checker.proofs.TypedExprs.{expr_fits}
 
 -- ---- names
@@ -107,13 +105,14 @@ module _ (final : typing.Names) (functions : List Heading) (ps : List Slot) wher
   pub good_pure : {A : Type 0} {Q : Body → A → Body → Type 0} (x : A) → ((s : Body) → Q s x s) → Good (pure x) Q
   good_pure x p = record { grows = λ s. grows_same s; keeps = λ s h e k. k; holds = λ s h e k. p s }
 
-  pub good_bind : {A B : Type 0} {P : Body → A → Body → Type 0} {Q : Body → B → Body → Type 0} {m : Writes A} {f : A → Writes B} → Good m P → ((x : A) → Good (f x) (λ t y u. (s : Body) → P s x t → Q s y u)) → Good (m >>= f) Q
+  pub good_bind : {A B : Type 0} {P : Body → A → Body → Type 0} {Q : Body → B → Body → Type 0} {m : Writes A} {f : A → Writes B} → Good m P
+      → ((x : A) → Good (f x) (λ t y u. (s : Body) → P s x t → Q s y u)) → Good (m >>= f) Q
   good_bind {m = m} {f = f} a b = record {
     grows = λ s. grows_then (a.grows s) ((b (m s).value).grows (m s).state);
     keeps = λ s h e k.
         let after = b (m s).value in
         after.keeps (m s).state (nil_right (m s).faults (f (m s).value (m s).state).faults h) e
-          (a.keeps s (nil_left (m s).faults (f (m s).value (m s).state).faults h) (ended_before (after.grows (m s).state) e) k);
+        (a.keeps s (nil_left (m s).faults (f (m s).value (m s).state).faults h) (ended_before (after.grows (m s).state) e) k);
     holds = λ s h e k.
         let after = b (m s).value in
         let first = nil_left (m s).faults (f (m s).value (m s).state).faults h in
@@ -124,7 +123,8 @@ module _ (final : typing.Names) (functions : List Heading) (ps : List Slot) wher
   pub good_weak : {A : Type 0} {P Q : Body → A → Body → Type 0} {m : Writes A} → Good m P → ((s : Body) (x : A) (t : Body) → P s x t → Q s x t) → Good m Q
   good_weak {m = m} a k = record { grows = a.grows; keeps = a.keeps; holds = λ s h e w. k s (m s).value (m s).state (a.holds s h e w) }
 
-  pub good_map : {A B : Type 0} {P : Body → A → Body → Type 0} {Q : Body → B → Body → Type 0} {m : Writes A} (f : A → B) → Good m P → ((s : Body) (x : A) (t : Body) → P s x t → Q s (f x) t) → Good (m >>= (λ x. pure (f x))) Q
+  pub good_map : {A B : Type 0} {P : Body → A → Body → Type 0} {Q : Body → B → Body → Type 0} {m : Writes A} (f : A → B) → Good m P
+      → ((s : Body) (x : A) (t : Body) → P s x t → Q s (f x) t) → Good (m >>= (λ x. pure (f x))) Q
   good_map f a k = good_bind {f = λ x. pure (f x)} a (λ x. good_pure (f x) (λ t s p. k s x t p))
 
   pub good_noted : {B : Type 0} {Q : Body → B → Body → Type 0} (faults : List CheckFault) {m : Writes B} → Good m (λ s y t. faults ≡ [] → Q s y t) → Good (note faults >> m) Q
@@ -176,7 +176,7 @@ module _ (final : typing.Names) (functions : List Heading) (ps : List Slot) wher
   pub value_good : (used : Bool) (e : Expr) → Good (value functions used e) (HasValue used)
   value_good used e =
       let part : (s : Body) → reads.Good final.texts (NamesFit final (visible functions s)) ((part_of (visible functions s) e).value used) (Used final used) =
-          λ s. (expr_fits final (NamesFit final (visible functions s)) (visible functions s) (λ w. w) e).value used in
+      λ s. (expr_fits final (NamesFit final (visible functions s)) (visible functions s) (λ w. w) e).value used in
       record {
         grows = λ s. record { texts = (part s).grows s.texts; locals = front_same s.locals; params = refl };
         keeps = λ s h e k. record { entries = k.entries; params = k.params; short = (part s).short s.texts h k.short; locals = k.locals; room = k.room };

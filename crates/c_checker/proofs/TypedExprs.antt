@@ -1,18 +1,17 @@
 -- Expressions fit the whole program, where no rule is broken.
-use Rattle.std.proofs.Common.{◌≡◌, ℕ, Bool, true, false, List, [], ◌∷◌, map, Option, Some, None, refl, sym, ap, ◌∙◌, subst, inl, inr}
+use Rattle.std.proofs.Common.{◌≡◌, ℕ, Bool, true, false, List, [], ◌∷◌, map, sym, ap, ◌∙◌, subst}
 use denote.Hole.Carrier.{out}
-use Rattle.nm_base.specs.declared.operator.Ctype.{Ctype}
 use Rattle.c_tree.specs.declared.program.PExpr.{PExpr}
 use Rattle.c_tree.specs.declared.tree.Expr.{Expr, ind-Expr, roll-Expr, out-Expr, out-roll-Expr}
 use Rattle.c_tree.specs.declared.tree.Expr.TheOpen.{Expr-F}
 use Rattle.c_tree.specs.declared.tree.Expr.TheBlock.{the_family, the_fold, body-Expr, lays-Expr}
 use Rattle.c_tree.specs.declared.tree.Expr.TheFolds.{family, steps, map-Expr, map_is-Expr}
 use Rattle.c_tree.specs.Typing as typing
-use Rattle.c_checker.specs.Found.{pure, broken, ◌>>=◌}
+use Rattle.c_checker.specs.Found.{broken}
 use Rattle.c_checker.specs.Scope.{Names}
-use Rattle.c_checker.specs.Expressions.{Reads, Part, valued, target, stored, both, three, typed, nothing, unary_of, binary_of, choose_of, and_of, or_of, comma_of, bump_of, assign_of, call, element, element_place, part_step, part_of}
+use Rattle.c_checker.specs.Expressions.{Reads, Part, valued, nothing, unary_of, binary_of, choose_of, and_of, or_of, comma_of, bump_of, assign_of, element, part_step, part_of}
 use Rattle.c_checker.specs.declared.fault.CheckFault.TheVariants.{NotAssignable, NotArray, Format}
-use Rattle.c_checker.proofs.TypedSorts.{IsValue, IsPlace, IsNothing, IsArray, Used, value_used, place_value, const_is, unary_is, binary_is, and_is, or_is, choose_is, comma_is, bump_is, assign_is}
+use Rattle.c_checker.proofs.TypedSorts.{IsValue, Used, value_used, place_value, const_is, unary_is, binary_is, and_is, or_is, choose_is, comma_is, bump_is, assign_is}
 use Rattle.c_checker.proofs.TypedReads.{Good, good_pure, good_broken, good_weak, good_map, good_both, good_three, good_after}
 use Rattle.c_checker.proofs.TypedParts.{ThingFits, NamesFit, PartFits, AllFit, value_named, place_named, array_named, loose_named, element_good, element_place_good, call_good}
 
@@ -63,24 +62,33 @@ module _ (final : typing.Names) (H : Type 0) where
     }
     step_fits (Expr-F.At name index line) =
         let thing = names.find name in
-        let f = plain_fits line (λ used. element thing line (part_of names index.0)) (λ used. good_weak final.texts H (element_good final H names.params thing line _ (λ w. (fit w).things name) index.1) (place_value final)) in
-        record { value = f.value; place = λ at. element_place_good final H names.params thing line _ at (λ w. (fit w).things name) index.1; array = f.array; loose = f.loose }
+        let known : H → ThingFits final names.params thing = λ w. (fit w).things name in
+        let f = plain_fits line (λ used. element thing line (part_of names index.0)) (λ used.
+        good_weak final.texts H (element_good final H names.params thing line _ known index.1) (place_value final)) in
+        record { value = f.value; place = λ at. element_place_good final H names.params thing line _ at known index.1; array = f.array; loose = f.loose }
     step_fits (Expr-F.Call name args line) = valued_fits line _ (λ used. call_good final H names (names.find name) _ line used (λ w. (fit w).things name) (all_fit args))
     step_fits (Expr-F.Paren part line) = let f = valued_fits line (part_of names part.0).value (part.1).value in record { value = f.value; place = (part.1).place; array = f.array; loose = f.loose }
     step_fits (Expr-F.Unary op part line) = plain_fits line _ (λ used. good_map final.texts H (λ x. unary_of op x line) ((part.1).value true) (λ x v. unary_is final op x line v))
-    step_fits (Expr-F.Bump up before part line) = plain_fits line _ (λ used. good_map final.texts H (λ x. bump_of up before x line) ((part.1).place (part_of names part.0).line) (λ x v. bump_is final up before x line v))
+    step_fits (Expr-F.Bump up before part line) =
+        plain_fits line _ (λ used. good_map final.texts H (λ x. bump_of up before x line) ((part.1).place (part_of names part.0).line) (λ x v. bump_is final up before x line v))
     step_fits (Expr-F.Binary op left right line) =
-        plain_fits line _ (λ used. good_map final.texts H (λ p. binary_of op p.0 p.1 line) (good_both final.texts H ((left.1).value true) ((right.1).value true)) (λ p v. binary_is final op p.0 p.1 line v.0 v.1))
+        plain_fits line _ (λ used. good_map final.texts H (λ p. binary_of op p.0 p.1 line)
+        (good_both final.texts H ((left.1).value true) ((right.1).value true)) (λ p v. binary_is final op p.0 p.1 line v.0 v.1))
     step_fits (Expr-F.And left right line) =
-        plain_fits line _ (λ used. good_map final.texts H (λ p. and_of p.0 p.1 line) (good_both final.texts H ((left.1).value true) ((right.1).value true)) (λ p v. and_is final p.0 p.1 line v.0 v.1))
+        plain_fits line _ (λ used. good_map final.texts H (λ p. and_of p.0 p.1 line)
+        (good_both final.texts H ((left.1).value true) ((right.1).value true)) (λ p v. and_is final p.0 p.1 line v.0 v.1))
     step_fits (Expr-F.Or left right line) =
-        plain_fits line _ (λ used. good_map final.texts H (λ p. or_of p.0 p.1 line) (good_both final.texts H ((left.1).value true) ((right.1).value true)) (λ p v. or_is final p.0 p.1 line v.0 v.1))
+        plain_fits line _ (λ used. good_map final.texts H (λ p. or_of p.0 p.1 line)
+        (good_both final.texts H ((left.1).value true) ((right.1).value true)) (λ p v. or_is final p.0 p.1 line v.0 v.1))
     step_fits (Expr-F.Choose test first second line) =
-        plain_fits line _ (λ used. good_map final.texts H (λ p. choose_of p.0 p.1 p.2 line) (good_three final.texts H ((test.1).value true) ((first.1).value true) ((second.1).value true)) (λ p v. choose_is final p.0 p.1 p.2 line v.0 v.1 v.2))
+        plain_fits line _ (λ used. good_map final.texts H (λ p. choose_of p.0 p.1 p.2 line)
+        (good_three final.texts H ((test.1).value true) ((first.1).value true) ((second.1).value true)) (λ p v. choose_is final p.0 p.1 p.2 line v.0 v.1 v.2))
     step_fits (Expr-F.Comma left right line) =
-        valued_fits line _ (λ used. good_map final.texts H (λ p. comma_of p.0 p.1 line) (good_both final.texts H ((left.1).value false) ((right.1).value used)) (λ p v. comma_is final used p.0 p.1 line v.0 v.1))
+        valued_fits line _ (λ used. good_map final.texts H (λ p. comma_of p.0 p.1 line)
+        (good_both final.texts H ((left.1).value false) ((right.1).value used)) (λ p v. comma_is final used p.0 p.1 line v.0 v.1))
     step_fits (Expr-F.Assign op place value line) =
-        plain_fits line _ (λ used. good_map final.texts H (λ p. assign_of op p.0 p.1 line) (good_both final.texts H ((place.1).place (part_of names place.0).line) ((value.1).value true)) (λ p v. assign_is final op p.0 p.1 line v.0 v.1))
+        plain_fits line _ (λ used. good_map final.texts H (λ p. assign_of op p.0 p.1 line)
+        (good_both final.texts H ((place.1).place (part_of names place.0).line) ((value.1).value true)) (λ p v. assign_is final op p.0 p.1 line v.0 v.1))
 
     rolled : (x : Expr-F Expr) (y : Expr-F Child) → trees y ≡ x → ExprFits (roll-Expr x)
     rolled x y is = subst (λ z. ExprFits (roll-Expr z)) is (subst (PartFits final H) (sym (part_roll names (trees y))) (step_fits y))

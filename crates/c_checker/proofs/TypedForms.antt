@@ -1,6 +1,6 @@
 -- Each form of statement fits the whole program, where no rule is broken.
-use Rattle.std.proofs.Common.{◌≡◌, ℕ, zero, suc, ◌+◌, ◌≤◌, ◌<◌, Bool, true, false, List, [], ◌∷◌, ◌++◌, map, length, Option, Some, None, refl, sym, ap, ◌∙◌, subst, arith, append_assoc, length-append}
-use Rattle.std.specs.Prelude.{◌&&◌, nat_lt, is_some, is_none}
+use Rattle.std.proofs.Common.{◌≡◌, ℕ, true, false, List, [], ◌∷◌, ◌++◌, map, length, Option, Some, None, refl, sym, ap, ◌∙◌, subst, arith, append_assoc}
+use Rattle.std.specs.Prelude.{nat_lt, is_some, is_none}
 use Rattle.std.specs.List.{list_all}
 use denote.Hole.Carrier.{out, roll}
 use Rattle.std.proofs.lemmas.List.{append-nil}
@@ -21,18 +21,22 @@ use Rattle.c_tree.specs.declared.tree.Stmt.TheOpen.{Stmt-F, Arm-F}
 use Rattle.c_tree.specs.declared.tree.Stmt.TheBlock.{the_family, the_fold, body-Stmt, body-Arm, lays-Stmt, lays-Arm}
 use Rattle.c_tree.specs.declared.tree.Stmt.TheFolds.{ind-Stmt, family, steps, map-Stmt, map_is-Stmt, map-Arm, map_is-Arm}
 use Rattle.c_tree.specs.Typing as typing
-use Rattle.c_tree.specs.Checks.{StmtCheck, ArmCheck, all_fine, blocks_of, arms_fine, blocks_of_arms, labels_of, labels_differ, has_labels, value_fits, effect_fits, test_fits, return_fits, check_of, check_step}
+use Rattle.c_tree.specs.Checks.{StmtCheck, ArmCheck, all_fine, blocks_of, arms_fine, blocks_of_arms, labels_of, labels_differ, has_labels, effect_fits, test_fits, return_fits}
+use Rattle.c_tree.specs.Checks.{check_of, check_step}
 use Rattle.c_checker.specs.declared.fault.CheckFault.TheVariants.{VoidValue, BreakOutside, ContinueOutside, NotConstant}
 use Rattle.c_checker.specs.declared.headings.Heading.{Heading}
 use Rattle.c_checker.specs.declared.state.Body.{Body}
 use Rattle.c_checker.specs.declared.state.Around.{Around}
 use Rattle.c_checker.specs.Found.{pure, note, unless, ◌>>=◌, ◌>>◌}
-use Rattle.c_checker.specs.Statements.{Writes, get, visible, value, optional, labels, outside, inside_loop, inside_switch, StmtPart, ArmPart, sequence, else_part, return_faults, arms, run, if_stmt, while_stmt, do_stmt, controls, for_stmt, break_stmt, continue_stmt, return_stmt, switch_stmt, arm, plain, stmt_step, arm_step, stmt_of, arm_of}
+use Rattle.c_checker.specs.Statements.{Writes, visible, value, optional, labels, outside, inside_loop, inside_switch, StmtPart, ArmPart, sequence, else_part, return_faults, arms}
+use Rattle.c_checker.specs.Statements.{run, if_stmt, while_stmt, do_stmt, controls, for_stmt, break_stmt, continue_stmt, return_stmt, switch_stmt, arm, plain, stmt_step, arm_step}
+use Rattle.c_checker.specs.Statements.{stmt_of, arm_of}
 use Rattle.c_checker.proofs.TypedLists.{unless_none, and_true}
 use Rattle.c_checker.proofs.TypedSorts.{is_value_true, effect_true}
-use Rattle.c_checker.proofs.TypedBodies.{Good, good_pure, good_bind, good_weak, good_map, good_noted, good_get, Still, still_same, HasValue, HasValueIfAny, UsedIfAny, value_good, optional_good}
+use Rattle.c_checker.proofs.TypedBodies.{Good, good_pure, good_bind, good_weak, good_map, good_noted, good_get, Still, still_same, HasValue, UsedIfAny, value_good, optional_good}
 use Rattle.c_checker.proofs.TypedStmts as level
-use Rattle.c_checker.proofs.TypedStmts.{LabelsAfter, labels_good, check_arm, check_empty, check_run, check_if, check_if_else, check_while, check_do, check_for, check_break, check_continue, check_return, check_switch, check_arm_is, around_of}
+use Rattle.c_checker.proofs.TypedStmts.{LabelsAfter, labels_good, check_arm, check_empty, check_run, check_if, check_if_else, check_while, check_do, check_for, check_break}
+use Rattle.c_checker.proofs.TypedStmts.{check_continue, check_return, check_switch, check_arm_is, around_of}
 
 module _ (final : typing.Names) (functions : List Heading) (ps : List Slot) (result : Option Ctype) where
   abbrev Laid : Body → Body → List (List ℕ) → Type 0
@@ -79,7 +83,8 @@ module _ (final : typing.Names) (functions : List Heading) (ps : List Slot) (res
   empty_good : (line : ℕ) (around : Around) → Good final functions ps (pure (p.Empty line)) (StmtFits around)
   empty_good line around = good_pure final functions ps (p.Empty line) (λ s. along (check_empty final result line) (record { fine = refl; laid = of_still s s (still_same final functions ps s) }))
 
-  returns : (e : Option Expr) (x : Option PExpr) (line : ℕ) → return_faults result e line ≡ [] → is_none x ≡ is_none e → UsedIfAny final functions ps true x → return_fits final result x ≡ true
+  returns : (e : Option Expr) (x : Option PExpr) (line : ℕ) → return_faults result e line ≡ [] → is_none x ≡ is_none e → UsedIfAny final functions ps true x
+      → return_fits final result x ≡ true
   returns e None line h a u = refl
   returns None (Some y) line h a u = cc
   returns (Some e) (Some y) line h a u = and_true (unless_none (is_some result) (VoidValue line) h) (is_value_true final y u)
@@ -103,7 +108,8 @@ module _ (final : typing.Names) (functions : List Heading) (ps : List Slot) (res
   else_good None around h = good_pure final functions ps None (λ s. of_still s s (still_same final functions ps s))
   else_good (Some x) around h = good_map final functions ps Some (h around) (λ s y t f. f)
 
-  if_fits : (around : Around) (line : ℕ) (x : PExpr) (y : PStmt) (z : Option PStmt) (s t u v : Body) → HasValue final functions ps true s x t → StmtFits around t y u → ElseFits around u z v → StmtFits around s (p.If x y z line) v
+  if_fits : (around : Around) (line : ℕ) (x : PExpr) (y : PStmt) (z : Option PStmt) (s t u v : Body) → HasValue final functions ps true s x t → StmtFits around t y u
+      → ElseFits around u z v → StmtFits around s (p.If x y z line) v
   if_fits around line x y None s t u v a b c =
       along (check_if final result x y line) (record {
         fine = and_true (and_true (is_value_true final x a.fits) b.fine) refl;
@@ -115,13 +121,15 @@ module _ (final : typing.Names) (functions : List Heading) (ps : List Slot) (res
         laid = laid_on s t v [] ((check y).blocks ++ (check z).blocks) (of_still s t a.still) (laid_on t u v (check y).blocks (check z).blocks b.laid c.laid);
       })
 
-  if_good : (test : Expr) (first : StmtPart) (second : Option StmtPart) (line : ℕ) (around : Around) → CheckFits first → ElseCheck second → Good final functions ps (if_stmt functions test first second line around) (StmtFits around)
+  if_good : (test : Expr) (first : StmtPart) (second : Option StmtPart) (line : ℕ) (around : Around) → CheckFits first → ElseCheck second
+      → Good final functions ps (if_stmt functions test first second line around) (StmtFits around)
   if_good test first second line around f g =
       good_bind final functions ps {f = λ x. first.check around >>= (λ y. else_part second around >>= (λ z. pure (p.If x y z line)))} (value_good final functions ps true test) (λ x.
       good_bind final functions ps {f = λ y. else_part second around >>= (λ z. pure (p.If x y z line))} (f around) (λ y.
       good_map final functions ps (λ z. p.If x y z line) (else_good second around g) (λ u z v c t b s a. if_fits around line x y z s t u v a b c)))
 
-  while_fits : (around : Around) (line : ℕ) (x : PExpr) (y : PStmt) (s t u : Body) → HasValue final functions ps true s x t → StmtFits inside_loop t y u → StmtFits around s (p.While x y line) u
+  while_fits : (around : Around) (line : ℕ) (x : PExpr) (y : PStmt) (s t u : Body) → HasValue final functions ps true s x t → StmtFits inside_loop t y u
+      → StmtFits around s (p.While x y line) u
   while_fits around line x y s t u a b =
       along (check_while final result x y line) (record { fine = and_true (is_value_true final x a.fits) b.fine; laid = laid_on s t u [] (check y).blocks (of_still s t a.still) b.laid })
 
@@ -130,7 +138,8 @@ module _ (final : typing.Names) (functions : List Heading) (ps : List Slot) (res
       good_bind final functions ps {f = λ x. body.check inside_loop >>= (λ y. pure (p.While x y line))} (value_good final functions ps true test) (λ x.
       good_map final functions ps (λ y. p.While x y line) (f inside_loop) (λ t y u b s a. while_fits around line x y s t u a b))
 
-  do_fits : (around : Around) (line : ℕ) (x : PExpr) (y : PStmt) (s t u : Body) → StmtFits inside_loop s y t → HasValue final functions ps true t x u → StmtFits around s (p.Do y x line) u
+  do_fits : (around : Around) (line : ℕ) (x : PExpr) (y : PStmt) (s t u : Body) → StmtFits inside_loop s y t → HasValue final functions ps true t x u
+      → StmtFits around s (p.Do y x line) u
   do_fits around line x y s t u a b =
       along (check_do final result y x line) (record {
         fine = and_true (is_value_true final x b.fits) a.fine;
@@ -161,14 +170,16 @@ module _ (final : typing.Names) (functions : List Heading) (ps : List Slot) (res
         laid = laid_on s t v [] [] (of_still s t a.still) (laid_on t u v [] [] (of_still t u b.still) (of_still u v c.still));
       })))
 
-  for_fits : (around : Around) (line : ℕ) (c : Option PExpr × Option PExpr × Option PExpr) (y : PStmt) (s t u : Body) → Controls s c t → StmtFits inside_loop t y u → StmtFits around s (p.For c.0 c.1 c.2 y line) u
+  for_fits : (around : Around) (line : ℕ) (c : Option PExpr × Option PExpr × Option PExpr) (y : PStmt) (s t u : Body) → Controls s c t → StmtFits inside_loop t y u
+      → StmtFits around s (p.For c.0 c.1 c.2 y line) u
   for_fits around line c y s t u a b =
       along (check_for final result c.0 c.1 c.2 y line) (record {
         fine = and_true (and_true (and_true a.first a.test) a.third) b.fine;
         laid = laid_on s t u [] (check y).blocks a.laid b.laid;
       })
 
-  for_good : (first test third : Option Expr) (body : StmtPart) (line : ℕ) (around : Around) → CheckFits body → Good final functions ps (for_stmt functions first test third body line) (StmtFits around)
+  for_good : (first test third : Option Expr) (body : StmtPart) (line : ℕ) (around : Around) → CheckFits body
+      → Good final functions ps (for_stmt functions first test third body line) (StmtFits around)
   for_good first test third body line around f =
       good_bind final functions ps {f = λ c. body.check inside_loop >>= (λ b. pure (p.For c.0 c.1 c.2 b line))} (controls_good first test third) (λ c.
       good_map final functions ps (λ b. p.For c.0 c.1 c.2 b line) (f inside_loop) (λ t y u b s a. for_fits around line c y s t u a b))
@@ -186,7 +197,9 @@ module _ (final : typing.Names) (functions : List Heading) (ps : List Slot) (res
   abbrev ArmChecks : ArmPart → Type 0
   ArmChecks x = (before : List PLabel) (line : ℕ) (around : Around) → Good final functions ps (x.check before line around) (ArmFits before around)
 
-  arm_fits : (before : List PLabel) (around : Around) (n line : ℕ) (ls : List PLabel) (ys : List PStmt) (s t u : Body) → unless (nat_lt 0 n) (NotConstant line) ≡ [] → LabelsAfter final functions ps before [] n s ls t → level.StmtsAfter final functions ps result [] around t ys u → ArmFits before around s (record { labels = ls; list = ys }) u
+  arm_fits : (before : List PLabel) (around : Around) (n line : ℕ) (ls : List PLabel) (ys : List PStmt) (s t u : Body) → unless (nat_lt 0 n) (NotConstant line) ≡ []
+      → LabelsAfter final functions ps before [] n s ls t → level.StmtsAfter final functions ps result [] around t ys u
+      → ArmFits before around s (record { labels = ls; list = ys }) u
   arm_fits before around n line ls ys s t u h l g =
       let is = check_arm_is final result ls ys in
       let some = ltb-true 0 n (unless_none (nat_lt 0 n) (NotConstant line) h) in
@@ -198,12 +211,16 @@ module _ (final : typing.Names) (functions : List Heading) (ps : List Slot) (res
         same = ap (λ c. c.labels) is;
       }
 
-  arm_good : (these : List Label) (list : List StmtPart) → level.AllCheck final functions ps result list → (before : List PLabel) (line : ℕ) (around : Around) → Good final functions ps (arm functions these list before line around) (ArmFits before around)
+  arm_good : (these : List Label) (list : List StmtPart) → level.AllCheck final functions ps result list → (before : List PLabel) (line : ℕ) (around : Around)
+      → Good final functions ps (arm functions these list before line around) (ArmFits before around)
   arm_good these list f before line around =
-      good_get final functions ps {f = λ s. note (unless (nat_lt 0 (length these)) (NotConstant line)) >> (labels (visible functions s) before [] these >>= (λ ls. sequence [] list around >>= (λ xs. pure (record { labels = ls; list = xs }))))} (λ x.
-      good_noted final functions ps (unless (nat_lt 0 (length these)) (NotConstant line))
-        (good_bind final functions ps {f = λ ls. sequence [] list around >>= (λ xs. pure (record { labels = ls; list = xs }))} (labels_good final functions ps (visible functions x) before [] these) (λ ls.
-        good_map final functions ps (λ xs. record { labels = ls; list = xs }) (level.sequence_good final functions ps result [] list around f) (λ t ys u g s l h same. arm_fits before around (length these) line ls ys s t u h l g))))
+      let made : List PLabel → List PStmt → PArm = λ ls xs. record { labels = ls; list = xs } in
+      let some = unless (nat_lt 0 (length these)) (NotConstant line) in
+      good_get final functions ps {f = λ s. note some >> (labels (visible functions s) before [] these >>= (λ ls. sequence [] list around >>= (λ xs. pure (made ls xs))))} (λ x.
+      good_noted final functions ps some
+      (good_bind final functions ps {f = λ ls. sequence [] list around >>= (λ xs. pure (made ls xs))} (labels_good final functions ps (visible functions x) before [] these) (λ ls.
+      good_map final functions ps (made ls) (level.sequence_good final functions ps result [] list around f) (λ t ys u g s l h same.
+      arm_fits before around (length these) line ls ys s t u h l g))))
 
   abbrev AllArms : List ArmPart → Type 0
   AllArms [] = Unit {0}
@@ -220,7 +237,8 @@ module _ (final : typing.Names) (functions : List Heading) (ps : List Slot) (res
     labelled : list_all has_labels (arm_checks more) ≡ true
     differ : labels_differ before ≡ true → labels_differ (before ++ labels_of (arm_checks more)) ≡ true
 
-  arms_then : (before : List PLabel) (these : List PArm) (around : Around) (y : PArm) (all : List PArm) (s t u : Body) → ArmFits before around s y t → ArmsAfter (before ++ y.labels) (these ++ y ∷ []) around t all u → ArmsAfter before these around s all u
+  arms_then : (before : List PLabel) (these : List PArm) (around : Around) (y : PArm) (all : List PArm) (s t u : Body) → ArmFits before around s y t
+      → ArmsAfter (before ++ y.labels) (these ++ y ∷ []) around t all u → ArmsAfter before these around s all u
   arms_then before these around y all s t u h g =
       let rest = labels_of (arm_checks g.more) in
       record {
@@ -232,7 +250,8 @@ module _ (final : typing.Names) (functions : List Heading) (ps : List Slot) (res
         differ = λ d. subst (λ l. labels_differ (before ++ (l ++ rest)) ≡ true) (sym h.same) (subst (λ l. labels_differ l ≡ true) (append_assoc before y.labels rest) (g.differ (h.differ d)));
       }
 
-  arms_good : (xs : List ArmPart) (before : List PLabel) (these : List PArm) (line : ℕ) (around : Around) → AllArms xs → Good final functions ps (arms xs before these line around) (ArmsAfter before these around)
+  arms_good : (xs : List ArmPart) (before : List PLabel) (these : List PArm) (line : ℕ) (around : Around) → AllArms xs
+      → Good final functions ps (arms xs before these line around) (ArmsAfter before these around)
   arms_good [] before these line around h = good_pure final functions ps these (λ s. record {
     more = [];
     is = sym (append-nil these);
@@ -245,14 +264,16 @@ module _ (final : typing.Names) (functions : List Heading) (ps : List Slot) (res
       good_bind final functions ps {f = λ y. arms more (before ++ y.labels) (these ++ y ∷ []) line around} (h.0 before line around) (λ y.
       good_weak final functions ps (arms_good more (before ++ y.labels) (these ++ y ∷ []) line around h.1) (λ t all u g s f. arms_then before these around y all s t u f g))
 
-  switch_fits : (around : Around) (line : ℕ) (x : PExpr) (ys : List PArm) (s t u : Body) → HasValue final functions ps true s x t → ArmsAfter [] [] (inside_switch around) t ys u → StmtFits around s (p.Switch x ys line) u
+  switch_fits : (around : Around) (line : ℕ) (x : PExpr) (ys : List PArm) (s t u : Body) → HasValue final functions ps true s x t → ArmsAfter [] [] (inside_switch around) t ys u
+      → StmtFits around s (p.Switch x ys line) u
   switch_fits around line x ys s t u a g =
       along (check_switch final result x ys line) (subst (λ l. Fits (check_step final result (PStmt-F.Switch x (arm_checks l) line)) around s u) (sym g.is) (record {
         fine = and_true (and_true (and_true (is_value_true final x a.fits) g.fine) g.labelled) (g.differ refl);
         laid = laid_on s t u [] (blocks_of_arms (arm_checks g.more)) (of_still s t a.still) g.laid;
       }))
 
-  switch_good : (on : Expr) (list : List ArmPart) (line : ℕ) (around : Around) → AllArms list → Good final functions ps (switch_stmt functions on list line around) (StmtFits around)
+  switch_good : (on : Expr) (list : List ArmPart) (line : ℕ) (around : Around) → AllArms list
+      → Good final functions ps (switch_stmt functions on list line around) (StmtFits around)
   switch_good on list line around f =
       good_bind final functions ps {f = λ x. arms list [] [] line (inside_switch around) >>= (λ xs. pure (p.Switch x xs line))} (value_good final functions ps true on) (λ x.
       good_map final functions ps (λ xs. p.Switch x xs line) (arms_good list [] [] line (inside_switch around) f) (λ t ys u g s a. switch_fits around line x ys s t u a g))
@@ -260,7 +281,8 @@ module _ (final : typing.Names) (functions : List Heading) (ps : List Slot) (res
 -- ---- all statements
 
 module _ (functions : List Heading) (result : Option Ctype) where
-  stmt_roll : (x : Stmt-F Stmt Arm) → stmt_of functions result (roll-Stmt x) ≡ stmt_step functions result (map-Stmt Stmt Arm StmtPart ArmPart (stmt_of functions result) (arm_of functions result) x)
+  stmt_roll : (x : Stmt-F Stmt Arm)
+      → stmt_of functions result (roll-Stmt x) ≡ stmt_step functions result (map-Stmt Stmt Arm StmtPart ArmPart (stmt_of functions result) (arm_of functions result) x)
   unfolding stmt_of arm_of out-Stmt roll-Stmt out
   stmt_roll x =
       let A = family StmtPart ArmPart in
@@ -269,7 +291,8 @@ module _ (functions : List Heading) (result : Option Ctype) where
       ∙ ap (λ l. stmt_step functions result ((body-Stmt).map the_family A (the_fold A S) l)) (out-roll-Stmt x)
       ∙ ap (stmt_step functions result) (map_is-Stmt the_family A (the_fold A S) x)
 
-  arm_roll : (x : Arm-F Stmt Arm) → arm_of functions result (roll-Arm x) ≡ arm_step functions result (map-Arm Stmt Arm StmtPart ArmPart (stmt_of functions result) (arm_of functions result) x)
+  arm_roll : (x : Arm-F Stmt Arm)
+      → arm_of functions result (roll-Arm x) ≡ arm_step functions result (map-Arm Stmt Arm StmtPart ArmPart (stmt_of functions result) (arm_of functions result) x)
   unfolding stmt_of arm_of out roll
   arm_roll x =
       let A = family StmtPart ArmPart in
@@ -305,13 +328,15 @@ module _ (final : typing.Names) (functions : List Heading) (ps : List Slot) (res
   all_arms [] = tt
   all_arms (x ∷ xs) = (x.1, all_arms xs)
 
-  abbrev plain_fits : (line : ℕ) (check : Around → Writes PStmt) → ((around : Around) → Good final functions ps (check around) (StmtFits final functions ps result around)) → PartFits (plain functions line check)
+  abbrev plain_fits : (line : ℕ) (check : Around → Writes PStmt) → ((around : Around) → Good final functions ps (check around) (StmtFits final functions ps result around))
+      → PartFits (plain functions line check)
   plain_fits line check h = level.plain_fits final functions ps result line check h
 
   abbrev trees : Stmt-F Child ArmChild → Stmt-F Stmt Arm
   trees y = map-Stmt Child ArmChild Stmt Arm (λ x. x.0) (λ x. x.0) y
 
-  step_fits : (y : Stmt-F Child ArmChild) → PartFits (stmt_step functions result (map-Stmt Stmt Arm StmtPart ArmPart (stmt_of functions result) (arm_of functions result) (trees y)))
+  step_fits : (y : Stmt-F Child ArmChild)
+      → PartFits (stmt_step functions result (map-Stmt Stmt Arm StmtPart ArmPart (stmt_of functions result) (arm_of functions result) (trees y)))
   step_fits (Stmt-F.Block vars list line) = record {
     check = λ around. level.block_good final functions ps result vars (parts list) line around (all_check list);
     body = λ from. level.block_from_good final functions ps result from vars (parts list) line outside (all_check list);
@@ -319,7 +344,8 @@ module _ (final : typing.Names) (functions : List Heading) (ps : List Slot) (res
   step_fits (Stmt-F.Empty line) = plain_fits line _ (λ around. empty_good final functions ps result line around)
   step_fits (Stmt-F.Run e line) = plain_fits line _ (λ around. run_good final functions ps result e line around)
   step_fits (Stmt-F.If test first None line) = plain_fits line _ (λ around. if_good final functions ps result test (stmt_of functions result first.0) None line around first.1.check tt)
-  step_fits (Stmt-F.If test first (Some second) line) = plain_fits line _ (λ around. if_good final functions ps result test (stmt_of functions result first.0) (Some (stmt_of functions result second.0)) line around first.1.check second.1.check)
+  step_fits (Stmt-F.If test first (Some second) line) = plain_fits line _ (λ around.
+      if_good final functions ps result test (stmt_of functions result first.0) (Some (stmt_of functions result second.0)) line around first.1.check second.1.check)
   step_fits (Stmt-F.While test body line) = plain_fits line _ (λ around. while_good final functions ps result test (stmt_of functions result body.0) line around body.1.check)
   step_fits (Stmt-F.Do body test line) = plain_fits line _ (λ around. do_good final functions ps result (stmt_of functions result body.0) test line around body.1.check)
   step_fits (Stmt-F.For first test third body line) = plain_fits line _ (λ around. for_good final functions ps result first test third (stmt_of functions result body.0) line around body.1.check)
@@ -331,7 +357,8 @@ module _ (final : typing.Names) (functions : List Heading) (ps : List Slot) (res
   abbrev arm_trees : Arm-F Child ArmChild → Arm-F Stmt Arm
   arm_trees y = map-Arm Child ArmChild Stmt Arm (λ x. x.0) (λ x. x.0) y
 
-  arm_step_fits : (y : Arm-F Child ArmChild) → ArmChecks final functions ps result (arm_step functions result (map-Arm Stmt Arm StmtPart ArmPart (stmt_of functions result) (arm_of functions result) (arm_trees y)))
+  arm_step_fits : (y : Arm-F Child ArmChild)
+      → ArmChecks final functions ps result (arm_step functions result (map-Arm Stmt Arm StmtPart ArmPart (stmt_of functions result) (arm_of functions result) (arm_trees y)))
   arm_step_fits y = arm_good final functions ps result y.labels (parts y.list) (all_check y.list)
 
   rolled : (x : Stmt-F Stmt Arm) (y : Stmt-F Child ArmChild) → trees y ≡ x → TreeFits (roll-Stmt x)

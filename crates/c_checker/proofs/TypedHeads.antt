@@ -1,10 +1,7 @@
 -- Functions that were declared agree with their bodies, where no rule is broken.
-use Rattle.std.proofs.Common.{◌≡◌, ℕ, zero, suc, ◌+◌, ◌≤◌, ◌<◌, Bool, true, false, List, [], ◌∷◌, ◌++◌, map, length, Option, Some, None, refl, sym, ap, ◌∙◌, subst, arith, append_assoc, length-append}
-use Rattle.std.specs.Prelude.{◌&&◌, ◌==◌, not, nat_le, nat_lt, slice_get, slice_set, is_some, is_none, if◌then◌else◌}
-use Rattle.std.proofs.lemmas.List.{append-nil}
+use Rattle.std.proofs.Common.{◌≡◌, ℕ, zero, suc, ◌≤◌, Bool, true, false, List, [], ◌∷◌, ◌++◌, length, Option, Some, None, refl, sym, ap, ◌∙◌, subst, arith}
+use Rattle.std.specs.Prelude.{◌&&◌, not, slice_get, slice_set, is_some, if◌then◌else◌}
 use Rattle.nm_base.specs.declared.operator.Ctype.{Ctype}
-use Rattle.nm_base.specs.declared.operator.Ctype.TheVariants.{Int, Unsigned}
-use Rattle.c_tree.specs.declared.program.Global.{Global}
 use Rattle.c_tree.specs.declared.program.Function.{Function}
 use Rattle.c_tree.specs.declared.program.Slot.{Slot}
 use Rattle.c_tree.specs.declared.tree.Item.{Item}
@@ -14,20 +11,17 @@ use Rattle.c_tree.specs.declared.tree.Declr.{Declr}
 use Rattle.c_tree.specs.declared.tree.Stmt.{Stmt}
 use Rattle.c_tree.specs.Typing as typing
 use Rattle.c_tree.specs.Typing.{same_type, is_typed}
-use Rattle.c_checker.specs.declared.fault.CheckFault.{CheckFault}
 use Rattle.c_checker.specs.declared.fault.CheckFault.TheVariants.{Twice, Mismatch, NoBody}
 use Rattle.c_checker.specs.declared.headings.Heading.{Heading}
 use Rattle.c_checker.specs.declared.entries.Thing.{Thing}
 use Rattle.c_checker.specs.declared.entries.Thing.TheVariants as t
-use Rattle.c_checker.specs.declared.state.Body.{Body}
 use Rattle.c_checker.specs.declared.state.File.{File}
-use Rattle.c_checker.specs.Found.{unless, ◌>>=◌, ◌>>◌}
+use Rattle.c_checker.specs.Found.{unless}
 use Rattle.c_checker.specs.Scope.{find}
-use Rattle.c_checker.specs.Statements.{stmt_of}
-use Rattle.c_checker.specs.Units.{Files, visible, global, globals, params, same_kind, same_kinds, same_result, later_faults, later_head, heading_of, first_head, head_of, head, with_body_of, with_body, body_begin, body_of, function_of, item, items, functions_of, missing}
-use Rattle.c_checker.proofs.TypedLists.{Front, front_same, front_more, front_then, nil_left, nil_right, unless_none, and_true, both_true, not_nil}
+use Rattle.c_checker.specs.Units.{visible, global, globals, params, same_kind, same_kinds, same_result, later_faults, heading_of, first_head, head_of, head, with_body_of}
+use Rattle.c_checker.specs.Units.{body_begin, body_of, function_of, item, items, functions_of, missing}
+use Rattle.c_checker.proofs.TypedLists.{Front, front_same, front_more, front_then, nil_left, nil_right, unless_none, both_true, not_nil}
 use Rattle.c_checker.proofs.TypedParts.{SameParams, same_is}
-use Rattle.c_checker.proofs.TypedStmts as level
 use Rattle.c_checker.proofs.TypedForms.{stmt_fits}
 
 -- ---- lists of functions
@@ -136,12 +130,14 @@ consistent_more (x ∷ hs) h a b = (a.0, consistent_more hs h a.1 b)
 pub record IsHead (hs : List Heading) (f : ℕ) (result : Option Ctype) (xs : List Slot) : Type 0 where
   pub agrees : (x : Heading) → slice_get hs f ≡ Some x → (result ≡ x.result) × SameParams x.params xs
 
-consistent_set : (hs : List Heading) (f : ℕ) (x : Heading) (made : Function) → Consistent hs → slice_get hs f ≡ Some x → BodyMatches x.result x.params (Some made) → Consistent (slice_set hs f (record x { body = Some made }))
+consistent_set : (hs : List Heading) (f : ℕ) (x : Heading) (made : Function) → Consistent hs → slice_get hs f ≡ Some x → BodyMatches x.result x.params (Some made)
+    → Consistent (slice_set hs f (record x { body = Some made }))
 consistent_set [] f x made a h b = tt
 consistent_set (y ∷ hs) zero x made a h b = (b, a.1)
 consistent_set (y ∷ hs) (suc f) x made a h b = (a.0, consistent_set hs f x made a.1 h b)
 
-consistent_body : (hs : List Heading) (f : ℕ) (made : Function) (o : Option Heading) → slice_get hs f ≡ o → Consistent hs → IsHead hs f made.result made.params → Consistent (with_body_of hs f made o)
+consistent_body : (hs : List Heading) (f : ℕ) (made : Function) (o : Option Heading) → slice_get hs f ≡ o → Consistent hs → IsHead hs f made.result made.params
+    → Consistent (with_body_of hs f made o)
 consistent_body hs f made None h a b = a
 consistent_body hs f made (Some x) h a b = consistent_set hs f x made a h (b.agrees x h)
 
@@ -150,7 +146,8 @@ pub has_all : (hs : List Heading) → Consistent hs → missing hs ≡ [] → Fu
 has_all [] a h = tt
 has_all (x ∷ hs) a h = by x.body a.0 (λ e. has_all hs a.1 e) h
   where
-    by : (o : Option Function) → BodyMatches x.result x.params o → (missing hs ≡ [] → FunctionsFit hs (functions_of hs)) → unless (is_some o) (NoBody x.line) ++ missing hs ≡ [] → FunctionsFit (x ∷ hs) (functions_of (record x { body = o } ∷ hs))
+    by : (o : Option Function) → BodyMatches x.result x.params o → (missing hs ≡ [] → FunctionsFit hs (functions_of hs)) → unless (is_some o) (NoBody x.line) ++ missing hs ≡ []
+        → FunctionsFit (x ∷ hs) (functions_of (record x { body = o } ∷ hs))
     by None b k e = absurd (not_nil (NoBody x.line) [] (missing hs) e)
     by (Some g) b k e = (b.0, b.1, k e)
 
@@ -225,12 +222,15 @@ last_is (x ∷ hs) h y e = last_is hs h y e
 first_headed : (h : Head) (xs : List Slot) (s : File) → Consistent s.headings → Headed h xs (length s.headings) (first_head h xs s).state
 first_headed h xs s c = record {
   consistent = consistent_more s.headings (heading_of h xs) c tt;
-  is_head = record { agrees = λ x e.
-    let is = last_is s.headings (heading_of h xs) x e in
-    (ap (λ (y : Heading). y.result) is, subst (λ (y : Heading). SameParams y.params xs) is (params_self xs)) };
+  is_head = record {
+    agrees = λ x e.
+        let is = last_is s.headings (heading_of h xs) x e in
+        (ap (λ (y : Heading). y.result) is, subst (λ (y : Heading). SameParams y.params xs) is (params_self xs));
+  };
 }
 
-later_agrees : (o : Option Heading) (h : Head) (xs : List Slot) (defines : Bool) (x : Heading) → o ≡ Some x → later_faults o h xs defines ≡ [] → (h.result ≡ x.result) × SameParams x.params xs
+later_agrees : (o : Option Heading) (h : Head) (xs : List Slot) (defines : Bool) (x : Heading) → o ≡ Some x → later_faults o h xs defines ≡ []
+    → (h.result ≡ x.result) × SameParams x.params xs
 later_agrees None h xs defines x e n = cc
 later_agrees (Some y) h xs defines x e n =
     let is : y ≡ x = cc in
@@ -242,14 +242,16 @@ later_agrees (Some y) h xs defines x e n =
 later_headed : (f : ℕ) (h : Head) (xs : List Slot) (defines : Bool) (s : File) → Consistent s.headings → later_faults (slice_get s.headings f) h xs defines ≡ [] → Headed h xs f s
 later_headed f h xs defines s c n = record { consistent = c; is_head = record { agrees = λ x e. later_agrees (slice_get s.headings f) h xs defines x e n } }
 
-head_of_headed : (x : Thing) (h : Head) (xs : List Slot) (defines : Bool) (s : File) → Consistent s.headings → (head_of x h xs defines s).faults ≡ [] → Headed h xs (head_of x h xs defines s).value (head_of x h xs defines s).state
+head_of_headed : (x : Thing) (h : Head) (xs : List Slot) (defines : Bool) (s : File) → Consistent s.headings → (head_of x h xs defines s).faults ≡ []
+    → Headed h xs (head_of x h xs defines s).value (head_of x h xs defines s).state
 head_of_headed (t.Function f result) h xs defines s c n = later_headed f h xs defines s c n
 head_of_headed (t.Scalar what of) h xs defines s c n = first_headed h xs s c
 head_of_headed (t.Array what of) h xs defines s c n = first_headed h xs s c
 head_of_headed (t.BuiltIn b) h xs defines s c n = first_headed h xs s c
 head_of_headed t.Unknown h xs defines s c n = first_headed h xs s c
 
-pub head_headed : (h : Head) (defines : Bool) (s : File) → Consistent s.headings → (head h defines s).faults ≡ [] → Headed h (head h defines s).value.1 (head h defines s).value.0 (head h defines s).state
+pub head_headed : (h : Head) (defines : Bool) (s : File) → Consistent s.headings → (head h defines s).faults ≡ []
+    → Headed h (head h defines s).value.1 (head h defines s).value.0 (head h defines s).state
 head_headed h defines s c n =
     let xs = params (visible s) defines [] h.params in
     let found = head_of (find s.entries h.name) h xs.value defines s in

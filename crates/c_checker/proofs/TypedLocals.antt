@@ -1,10 +1,11 @@
 -- A block's locals fit the whole program, where no rule is broken.
-use Rattle.std.proofs.Common.{◌≡◌, ℕ, zero, suc, ◌+◌, ◌≤◌, ◌<◌, Bool, true, false, List, [], ◌∷◌, ◌++◌, map, length, Option, Some, None, refl, sym, ap, ◌∙◌, subst, arith, append_assoc, length-append, drop}
+use Rattle.std.proofs.Common.{◌≡◌, ℕ, ◌+◌, ◌<◌, Bool, true, false, List, [], ◌∷◌, ◌++◌, map, length, Option, Some, None, refl, sym, ap, ◌∙◌, subst, arith, append_assoc}
+use Rattle.std.proofs.Common.{length-append, drop}
 use Rattle.std.specs.Prelude.{◌&&◌, ◌||◌, ◌==◌, not, nat_le, nat_lt, slice_get, is_some, is_none, unwrap_or}
 use Rattle.std.specs.List.{list_all}
 use Rattle.std.proofs.lemmas.List.{append-nil, length-map, map-append}
 use Rattle.std.proofs.lemmas.List.Folds.{list_all-append}
-use Rattle.std.proofs.lemmas.Bool.{eqb-true, leb-true, le-leb, eq-eqb, ltb-true, lt-ltb}
+use Rattle.std.proofs.lemmas.Bool.{leb-true, eq-eqb, ltb-true, lt-ltb}
 use Rattle.nm_base.specs.declared.operator.Ctype.{Ctype}
 use Rattle.c_tree.specs.declared.program.Slot.{Slot}
 use Rattle.c_tree.specs.declared.program.Start.{Start}
@@ -14,21 +15,23 @@ use Rattle.c_tree.specs.declared.tree.Expr.{Expr}
 use Rattle.c_tree.specs.declared.tree.Declr.{Declr}
 use Rattle.c_tree.specs.declared.tree.Vars.{Vars}
 use Rattle.c_tree.specs.Typing as typing
-use Rattle.c_tree.specs.Checks.{blocks_fit, local_fits, is_name, is_size, is_scalar, is_block_slot, in_order, start_fits, value_fits}
+use Rattle.c_tree.specs.Checks.{local_fits, is_name, is_size, is_scalar, is_block_slot, in_order, start_fits}
 use Rattle.c_checker.specs.declared.fault.CheckFault.{CheckFault}
 use Rattle.c_checker.specs.declared.fault.CheckFault.TheVariants.{NotScalar, NotConstant, BadSize, Twice, TooMany}
 use Rattle.c_checker.specs.declared.headings.Heading.{Heading}
 use Rattle.c_checker.specs.declared.state.Body.{Body}
 use Rattle.c_checker.specs.Constants.{constant_of}
-use Rattle.c_checker.specs.Found.{Found, pure, lift, note, unless, ◌>>=◌, ◌>>◌}
+use Rattle.c_checker.specs.Found.{Found, pure, unless, ◌>>=◌}
 use Rattle.c_checker.specs.Scope.{Names, variable, params_of, is_taken}
 use Rattle.c_checker.specs.Expressions.{first_line}
-use Rattle.c_checker.specs.Statements.{Writes, bits_of, inner_faults, constant_bits, constant_pattern, size_faults, size_of, size, declr_faults, slot_of, entry_of, slots, local_faults, new_local, visible, optional, add_local, declare, declares, locals, begin_block}
-use Rattle.c_checker.proofs.TypedLists.{Front, front_same, front_more, front_get, get_next, nil_left, nil_right, unless_none, and_true, both_true, not_nil}
-use Rattle.c_checker.proofs.TypedSorts.{IsValue, Used, is_value_true}
+use Rattle.c_checker.specs.Statements.{bits_of, inner_faults, constant_bits, constant_pattern, size_faults, size, declr_faults, slot_of, entry_of, slots, visible, optional}
+use Rattle.c_checker.specs.Statements.{add_local, declare, declares, locals, begin_block}
+use Rattle.c_checker.proofs.TypedLists.{front_same, front_more, front_get, get_next, nil_left, nil_right, unless_none, and_true, both_true, not_nil}
+use Rattle.c_checker.proofs.TypedSorts.{is_value_true}
 use Rattle.c_checker.proofs.TypedParts.{ThingFits}
 use Rattle.c_checker.proofs.TypedBodies as bodies
-use Rattle.c_checker.proofs.TypedBodies.{EntriesFit, append_fits, Grows, grows_same, grows_then, Ended, Known, Good, good_pure, good_bind, good_weak, good_map, good_noted, good_lift, good_get, Laid, HasValue, HasValueIfAny, optional_good}
+use Rattle.c_checker.proofs.TypedBodies.{EntriesFit, append_fits, Grows, grows_same, grows_then, Ended, Known, Good, good_pure, good_bind, good_weak, good_map, good_noted}
+use Rattle.c_checker.proofs.TypedBodies.{good_lift, good_get, Laid, HasValue, HasValueIfAny, optional_good}
 
 -- ---- sizes
 
@@ -65,7 +68,8 @@ no_size names (Some e) line h = cc
 
 -- ---- one local
 
-pub variable_fits : (final : typing.Names) (params : ℕ → List Slot) (number : ℕ) (x : Slot) → slice_get final.slots number ≡ Some x → x.array_param ≡ false → ThingFits final params (variable (ASlot number) x.of (is_some x.length))
+pub variable_fits : (final : typing.Names) (params : ℕ → List Slot) (number : ℕ) (x : Slot) → slice_get final.slots number ≡ Some x → x.array_param ≡ false
+    → ThingFits final params (variable (ASlot number) x.of (is_some x.length))
 variable_fits final params number x h g = by_length x.length h
   where
     by_length : (o : Option ℕ) → slice_get final.slots number ≡ Some (record x { length = o }) → ThingFits final params (variable (ASlot number) x.of (is_some o))
@@ -128,15 +132,16 @@ module _ (final : typing.Names) (functions : List Heading) (ps : List Slot) (res
     slot_at s p e =
         let place : length (ps ++ s.locals) ≡ slots s = length-append ps s.locals ∙ ap (λ n. n + length s.locals) (sym p) in
         subst (λ i. slice_get final.slots i ≡ Some (made s)) place
-          (front_get (length (ps ++ s.locals)) (made s) e.slots
-            (subst (λ l. slice_get l (length (ps ++ s.locals)) ≡ Some (made s)) (append_assoc ps s.locals (made s ∷ [])) (get_next (ps ++ s.locals) (made s) [])))
+        (front_get (length (ps ++ s.locals)) (made s) e.slots
+        (subst (λ l. slice_get l (length (ps ++ s.locals)) ≡ Some (made s)) (append_assoc ps s.locals (made s ∷ [])) (get_next (ps ++ s.locals) (made s) [])))
 
     more_slots : (s : Body) → slots (after s) ≡ slots s + 1
     more_slots s = omega (arith, length-append s.locals (made s ∷ []))
 
     known_after : (s : Body) → Fine s → Ended final functions ps (after s) → Known final functions ps s → Known final functions ps (after s)
     known_after s f e k = record {
-      entries = append_fits final (params_of functions) s.entries (entry_of of d (sized s).value (slots s) ∷ []) k.entries (variable_fits final (params_of functions) (slots s) (made s) (slot_at s k.params e) refl, tt);
+      entries = append_fits final (params_of functions) s.entries (entry_of of d (sized s).value (slots s) ∷ []) k.entries
+          (variable_fits final (params_of functions) (slots s) (made s) (slot_at s k.params e) refl, tt);
       params = k.params;
       short = k.short;
       locals = list_all-append local_fits s.locals (made s ∷ []) ∙ and_true k.locals (and_true (and_true (and_true f.name f.length) refl) refl);
@@ -186,14 +191,18 @@ module _ (final : typing.Names) (functions : List Heading) (ps : List Slot) (res
   starts_then b s t u xs ys h g =
       let number : Start → ℕ = λ x. x.slot in
       record {
-        order = ap (in_order (slots s)) (map-append number xs ys) ∙ orders (slots s) (map number xs) (map number ys) h.order (subst (λ n. in_order n (map number ys) ≡ true) (h.count ∙ ap (λ n. slots s + n) (sym (length-map xs number))) g.order);
+        order = ap (in_order (slots s)) (map-append number xs ys)
+            ∙ orders (slots s) (map number xs) (map number ys) h.order
+            (subst (λ n. in_order n (map number ys) ≡ true) (h.count ∙ ap (λ n. slots s + n) (sym (length-map xs number))) g.order);
         count = omega (arith, h.count, g.count, length-append xs ys);
         block = ap (list_all (is_block_slot final.slots b)) (map-append number xs ys) ∙ list_all-append (is_block_slot final.slots b) (map number xs) (map number ys) ∙ and_true h.block g.block;
         fine = list_all-append (start_fits final result) xs ys ∙ and_true h.fine g.fine;
         blocks = g.blocks ∙ h.blocks;
       }
 
-  value_scalar : (d : Declr) (o : Option Expr) (x : Option PExpr) (slot : Slot) (n : ℕ) (line : ℕ) → (is_none d.size || is_none o) ≡ true → is_none x ≡ is_none o → slice_get final.slots n ≡ Some slot → (is_none d.size ≡ true → is_scalar final result (Some slot) ≡ true) → bodies.UsedIfAny final functions ps true x → start_fits final result (record { slot = n; value = x; line = line }) ≡ true
+  value_scalar : (d : Declr) (o : Option Expr) (x : Option PExpr) (slot : Slot) (n : ℕ) (line : ℕ) → (is_none d.size || is_none o) ≡ true → is_none x ≡ is_none o
+      → slice_get final.slots n ≡ Some slot → (is_none d.size ≡ true → is_scalar final result (Some slot) ≡ true) → bodies.UsedIfAny final functions ps true x
+      → start_fits final result (record { slot = n; value = x; line = line }) ≡ true
   value_scalar d o None slot n line h e g k v = refl
   value_scalar d None (Some y) slot n line h e g k v = cc
   value_scalar d (Some a) (Some y) slot n line h e g k v = and_true (is_value_true final y v) (ap (is_scalar final result) g ∙ k (no_start (is_none d.size) h))
@@ -202,7 +211,8 @@ module _ (final : typing.Names) (functions : List Heading) (ps : List Slot) (res
       no_start true h = refl
       no_start false h = h
 
-  one_start : (b : ℕ) (d : Declr) (s t u : Body) (n : ℕ) (x : Option PExpr) → Added b d s n t → HasValueIfAny final functions ps true d.start t x u → Starts b s (record { slot = n; value = x; line = d.line } ∷ []) u
+  one_start : (b : ℕ) (d : Declr) (s t u : Body) (n : ℕ) (x : Option PExpr) → Added b d s n t → HasValueIfAny final functions ps true d.start t x u
+      → Starts b s (record { slot = n; value = x; line = d.line } ∷ []) u
   one_start b d s t u n x a v = record {
     order = and_true (eq-eqb n (slots s) a.number) refl;
     count = omega (arith, v.still.slots, a.count);

@@ -1,13 +1,12 @@
 -- What is read of an expression fits the whole program, where no rule is broken.
-use Rattle.std.proofs.Common.{◌≡◌, ℕ, Bool, true, List, [], ◌∷◌, ◌++◌, length, refl, sym, ap, ◌∙◌}
-use Rattle.std.specs.Prelude.{◌&&◌, nat_le}
+use Rattle.std.proofs.Common.{◌≡◌, ℕ, true, List, [], ◌∷◌, length, ◌∙◌}
+use Rattle.std.specs.Prelude.{nat_le}
 use Rattle.std.specs.List.{list_all}
-use Rattle.std.proofs.lemmas.List.Folds.{list_all-append}
 use Rattle.std.proofs.lemmas.List.{append-nil}
 use Rattle.c_checker.specs.declared.fault.CheckFault.{CheckFault}
-use Rattle.c_checker.specs.Found.{Check, pure, broken, note, unless, ◌>>=◌, ◌>>◌}
-use Rattle.c_checker.specs.Expressions.{Reads, both, three, add_text}
-use Rattle.c_checker.proofs.TypedLists.{Front, front_same, front_more, front_then, nil_left, nil_right, not_nil, and_true}
+use Rattle.c_checker.specs.Found.{pure, broken, note, ◌>>=◌, ◌>>◌}
+use Rattle.c_checker.specs.Expressions.{Reads, both, three}
+use Rattle.c_checker.proofs.TypedLists.{Front, front_same, front_then, nil_left, nil_right, not_nil}
 
 abbrev pub AllShort : List (List ℕ) → Type 0
 AllShort texts = list_all (λ t. nat_le (length t) 509) texts ≡ true
@@ -32,7 +31,7 @@ module _ (T : List (List ℕ)) (H : Type 0) where
     holds = λ s h e w.
         let after = b (m s).value in
         after.holds (m s).state (nil_right (m s).faults (f (m s).value (m s).state).faults h) e w
-          (a.holds s (nil_left (m s).faults (f (m s).value (m s).state).faults h) (front_then (after.grows (m s).state) e) w);
+        (a.holds s (nil_left (m s).faults (f (m s).value (m s).state).faults h) (front_then (after.grows (m s).state) e) w);
   }
 
   pub good_weak : {A : Type 0} {P Q : A → Type 0} {m : Reads A} → Good m P → ((x : A) → P x → Q x) → Good m Q
@@ -50,7 +49,8 @@ module _ (T : List (List ℕ)) (H : Type 0) where
   pub good_both : {A B : Type 0} {P : A → Type 0} {Q : B → Type 0} {m : Reads A} {n : Reads B} → Good m P → Good n Q → Good (both m n) (λ p. P p.0 × Q p.1)
   good_both {n = n} a b = good_bind {f = λ x. n >>= (λ y. pure (x, y))} a (λ x. good_map (λ y. (x, y)) b (λ y q p. (p, q)))
 
-  pub good_three : {A B C : Type 0} {P : A → Type 0} {Q : B → Type 0} {R : C → Type 0} {l : Reads A} {m : Reads B} {n : Reads C} → Good l P → Good m Q → Good n R → Good (three l m n) (λ p. P p.0 × Q p.1 × R p.2)
+  pub good_three : {A B C : Type 0} {P : A → Type 0} {Q : B → Type 0} {R : C → Type 0} {l : Reads A} {m : Reads B} {n : Reads C} → Good l P → Good m Q → Good n R
+      → Good (three l m n) (λ p. P p.0 × Q p.1 × R p.2)
   good_three {m = m} {n = n} a b c =
       good_bind {f = λ x. m >>= (λ y. n >>= (λ z. pure (x, y, z)))} a (λ x.
       good_bind {f = λ y. n >>= (λ z. pure (x, y, z))} b (λ y.
@@ -64,11 +64,13 @@ module _ (T : List (List ℕ)) (H : Type 0) where
   good_notes f fs x = good_noted (f ∷ fs) (good_pure x (λ w e. absurd (not_nil f fs [] (append-nil (f ∷ fs) ∙ e))))
 
   -- what is known of a value makes it good
-  pub good_if : {A : Type 0} {P : Type 0} {Q : A → Type 0} {m : Reads A} → ((s : List (List ℕ)) → Front s (m s).state) → ((s : List (List ℕ)) → (m s).faults ≡ [] → AllShort s → AllShort (m s).state) → (P → Good m Q) → Good m (λ y. P → Q y)
+  pub good_if : {A : Type 0} {P : Type 0} {Q : A → Type 0} {m : Reads A} → ((s : List (List ℕ)) → Front s (m s).state)
+      → ((s : List (List ℕ)) → (m s).faults ≡ [] → AllShort s → AllShort (m s).state) → (P → Good m Q) → Good m (λ y. P → Q y)
   good_if g a k = record { grows = g; short = a; holds = λ s h e w p. (k p).holds s h e w }
 
   -- what follows is good where no rule of these is broken
-  pub good_where : {B : Type 0} {Q : B → Type 0} {m : Reads B} (faults : List CheckFault) → ((s : List (List ℕ)) → Front s (m s).state) → (faults ≡ [] → Good m Q) → Good (note faults >> m) Q
+  pub good_where : {B : Type 0} {Q : B → Type 0} {m : Reads B} (faults : List CheckFault) → ((s : List (List ℕ)) → Front s (m s).state) → (faults ≡ [] → Good m Q)
+      → Good (note faults >> m) Q
   good_where {m = m} faults g k = record {
     grows = g;
     short = λ s h a. (k (nil_left faults (m s).faults h)).short s (nil_right faults (m s).faults h) a;

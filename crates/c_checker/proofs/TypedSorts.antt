@@ -1,5 +1,5 @@
 -- The sort of each kind of expression, by those of its parts.
-use Rattle.std.proofs.Common.{◌≡◌, ℕ, Bool, true, false, List, [], ◌∷◌, map, length, Option, Some, None, refl, sym, ap, ◌∙◌, subst, ◌⊎◌, inl, inr}
+use Rattle.std.proofs.Common.{◌≡◌, ℕ, Bool, true, false, List, map, length, Option, Some, None, refl, sym, ap, ◌∙◌, ◌⊎◌, inl, inr}
 use Rattle.std.specs.Prelude.{◌&&◌, slice_get, unwrap_or, nat_lt}
 use Rattle.std.proofs.lemmas.Option.{slice_get_within}
 use Rattle.std.proofs.lemmas.Bool.{lt-ltb}
@@ -17,9 +17,11 @@ use Rattle.c_tree.specs.declared.program.PKind.TheOpen.{PKind-F, PExpr-F}
 use Rattle.c_tree.specs.declared.program.PKind.TheBlock.{laid-PKind, the_family, the_fold, body-PKind, body-PExpr, lays-PKind, lays-PExpr}
 use Rattle.c_tree.specs.declared.program.PKind.TheFolds.{family, steps, map-PKind, map_is-PKind, map-PExpr, map_is-PExpr}
 use Rattle.c_tree.specs.declared.program.PKind.TheVariants as k
-use Rattle.c_tree.specs.declared.program.PKind.TheVariants.{rolls-Const, rolls-Text, rolls-Name, rolls-At, rolls-Call, rolls-Unary, rolls-Bump, rolls-Binary, rolls-And, rolls-Or, rolls-Choose, rolls-Comma, rolls-Assign}
+use Rattle.c_tree.specs.declared.program.PKind.TheVariants.{rolls-Const, rolls-Text, rolls-Name, rolls-At, rolls-Call, rolls-Unary, rolls-Bump, rolls-Binary, rolls-And, rolls-Or}
+use Rattle.c_tree.specs.declared.program.PKind.TheVariants.{rolls-Choose, rolls-Comma, rolls-Assign}
 use Rattle.c_tree.specs.Typing as typing
-use Rattle.c_tree.specs.Typing.{Names, Sort, Value, Void, Array, Text, Wrong, sort_of, sort_of_target, sort_of_call, sort_step, typed_step, agreed, is_value, is_effect, with_type, with_place, where_true, element_of, unary_type, binary_type}
+use Rattle.c_tree.specs.Typing.{Names, Sort, Value, Void, Array, Text, Wrong, sort_of, sort_of_target, sort_of_call, sort_step, typed_step, agreed, is_value, is_effect, with_type}
+use Rattle.c_tree.specs.Typing.{with_place, where_true, element_of, unary_type, binary_type}
 use Rattle.c_checker.specs.Expressions.{typed, type_of, unary_of, binary_of, choose_of, and_of, or_of, comma_of, bump_of, assign_of, call_of, text_argument}
 
 agreed_value : (of : Ctype) (b : Bool) → agreed (Value of b) (Some of) ≡ Value of b
@@ -33,7 +35,8 @@ agreed_array Unsigned = refl
 unary_sort : (op : UnaryOp) (s : Sort) (a : Ctype) (p : Bool) → s ≡ Value a p → with_type s (λ of. Value (unary_type op of) false) ≡ Value (unary_type op a) false
 unary_sort op s a p h = ap (λ s. with_type s (λ of. Value (unary_type op of) false)) h
 
-both_sort : (f : Ctype → Ctype → Ctype) (s t : Sort) (a b : Ctype) (p q : Bool) → s ≡ Value a p → t ≡ Value b q → with_type s (λ a. with_type t (λ b. Value (f a b) false)) ≡ Value (f a b) false
+both_sort : (f : Ctype → Ctype → Ctype) (s t : Sort) (a b : Ctype) (p q : Bool) → s ≡ Value a p → t ≡ Value b q
+    → with_type s (λ a. with_type t (λ b. Value (f a b) false)) ≡ Value (f a b) false
 both_sort f s t a b p q h g = ap (λ s. with_type s (λ a. with_type t (λ b. Value (f a b) false))) h ∙ ap (λ t. with_type t (λ b. Value (f a b) false)) g
 
 value_true : (s : Sort) (a : Ctype) (p : Bool) → s ≡ Value a p → is_value s ≡ true
@@ -134,7 +137,10 @@ module _ (names : Names) where
   pub element_is : (what : Target) (of : Ctype) (i : PExpr) (line : ℕ) → sort_of_target names what ≡ Array of → IsValue i → IsPlace (typed (k.At what i) of line)
   element_is what of i line h v = record {
     of = of;
-    sort = sort_typed (k.At what i) of line true (ap (λ s. s (Some of)) (ap kind_sort (sym (rolls-At what i)) ∙ kind_roll (PKind-F.At what i)) ∙ where_is (is_value (sort_of names i)) (element_of (sort_of_target names what)) (is_value_true i v) ∙ ap element_of h);
+    sort = sort_typed (k.At what i) of line true
+        (ap (λ s. s (Some of)) (ap kind_sort (sym (rolls-At what i)) ∙ kind_roll (PKind-F.At what i))
+        ∙ where_is (is_value (sort_of names i)) (element_of (sort_of_target names what)) (is_value_true i v)
+        ∙ ap element_of h);
     typed = refl;
   }
 
@@ -143,9 +149,9 @@ module _ (names : Names) where
   pub unary_is : (op : UnaryOp) (x : PExpr) (line : ℕ) → IsValue x → IsValue (unary_of op x line)
   unary_is op x line h =
       value_typed (k.Unary op x) (unary_type op (type_of x)) line false
-        (ap (λ s. s (Some (unary_type op (type_of x)))) (ap kind_sort (sym (rolls-Unary op x)) ∙ kind_roll (PKind-F.Unary op x))
-        ∙ unary_sort op (sort_of names x) h.of h.place h.sort
-        ∙ ap (λ t. Value (unary_type op t) false) (sym (type_is x h.of h.typed)))
+      (ap (λ s. s (Some (unary_type op (type_of x)))) (ap kind_sort (sym (rolls-Unary op x)) ∙ kind_roll (PKind-F.Unary op x))
+      ∙ unary_sort op (sort_of names x) h.of h.place h.sort
+      ∙ ap (λ t. Value (unary_type op t) false) (sym (type_is x h.of h.typed)))
 
   abbrev types_are : (f : Ctype → Ctype → Ctype) (x y : PExpr) (h : IsValue x) (g : IsValue y) → Value (f h.of g.of) false ≡ Value (f (type_of x) (type_of y)) false
   types_are f x y h g = ap (λ t. Value (f t g.of) false) (sym (type_is x h.of h.typed)) ∙ ap (λ t. Value (f (type_of x) t) false) (sym (type_is y g.of g.typed))
@@ -153,29 +159,29 @@ module _ (names : Names) where
   pub binary_is : (op : BinaryOp) (x y : PExpr) (line : ℕ) → IsValue x → IsValue y → IsValue (binary_of op x y line)
   binary_is op x y line h g =
       value_typed (k.Binary op x y) (binary_type op (type_of x) (type_of y)) line false
-        (ap (λ s. s (Some (binary_type op (type_of x) (type_of y)))) (ap kind_sort (sym (rolls-Binary op x y)) ∙ kind_roll (PKind-F.Binary op x y))
-        ∙ both_sort (binary_type op) (sort_of names x) (sort_of names y) h.of g.of h.place g.place h.sort g.sort
-        ∙ types_are (binary_type op) x y h g)
+      (ap (λ s. s (Some (binary_type op (type_of x) (type_of y)))) (ap kind_sort (sym (rolls-Binary op x y)) ∙ kind_roll (PKind-F.Binary op x y))
+      ∙ both_sort (binary_type op) (sort_of names x) (sort_of names y) h.of g.of h.place g.place h.sort g.sort
+      ∙ types_are (binary_type op) x y h g)
 
   pub and_is : (x y : PExpr) (line : ℕ) → IsValue x → IsValue y → IsValue (and_of x y line)
   and_is x y line h g =
       value_typed (k.And x y) Int line false
-        (ap (λ s. s (Some Int)) (ap kind_sort (sym (rolls-And x y)) ∙ kind_roll (PKind-F.And x y))
-        ∙ where_is (is_value (sort_of names x) && is_value (sort_of names y)) (Value Int false) (ap (λ b. b && is_value (sort_of names y)) (is_value_true x h) ∙ is_value_true y g))
+      (ap (λ s. s (Some Int)) (ap kind_sort (sym (rolls-And x y)) ∙ kind_roll (PKind-F.And x y))
+      ∙ where_is (is_value (sort_of names x) && is_value (sort_of names y)) (Value Int false) (ap (λ b. b && is_value (sort_of names y)) (is_value_true x h) ∙ is_value_true y g))
 
   pub or_is : (x y : PExpr) (line : ℕ) → IsValue x → IsValue y → IsValue (or_of x y line)
   or_is x y line h g =
       value_typed (k.Or x y) Int line false
-        (ap (λ s. s (Some Int)) (ap kind_sort (sym (rolls-Or x y)) ∙ kind_roll (PKind-F.Or x y))
-        ∙ where_is (is_value (sort_of names x) && is_value (sort_of names y)) (Value Int false) (ap (λ b. b && is_value (sort_of names y)) (is_value_true x h) ∙ is_value_true y g))
+      (ap (λ s. s (Some Int)) (ap kind_sort (sym (rolls-Or x y)) ∙ kind_roll (PKind-F.Or x y))
+      ∙ where_is (is_value (sort_of names x) && is_value (sort_of names y)) (Value Int false) (ap (λ b. b && is_value (sort_of names y)) (is_value_true x h) ∙ is_value_true y g))
 
   pub choose_is : (t x y : PExpr) (line : ℕ) → IsValue t → IsValue x → IsValue y → IsValue (choose_of t x y line)
   choose_is t x y line v h g =
       value_typed (k.Choose t x y) (common_type (type_of x) (type_of y)) line false
-        (ap (λ s. s (Some (common_type (type_of x) (type_of y)))) (ap kind_sort (sym (rolls-Choose t x y)) ∙ kind_roll (PKind-F.Choose t x y))
-        ∙ where_is (is_value (sort_of names t)) (with_type (sort_of names x) (λ a. with_type (sort_of names y) (λ b. Value (common_type a b) false))) (is_value_true t v)
-        ∙ both_sort common_type (sort_of names x) (sort_of names y) h.of g.of h.place g.place h.sort g.sort
-        ∙ types_are common_type x y h g)
+      (ap (λ s. s (Some (common_type (type_of x) (type_of y)))) (ap kind_sort (sym (rolls-Choose t x y)) ∙ kind_roll (PKind-F.Choose t x y))
+      ∙ where_is (is_value (sort_of names t)) (with_type (sort_of names x) (λ a. with_type (sort_of names y) (λ b. Value (common_type a b) false))) (is_value_true t v)
+      ∙ both_sort common_type (sort_of names x) (sort_of names y) h.of g.of h.place g.place h.sort g.sort
+      ∙ types_are common_type x y h g)
 
   comma_kind : (x y : PExpr) (written : Option Ctype) → Used false x → kind_sort (k.Comma x y) written ≡ typing.comma_of (sort_of names y)
   comma_kind x y written h =
@@ -186,7 +192,10 @@ module _ (names : Names) where
   comma_value x y line h g = record {
     of = g.of;
     place = false;
-    sort = sort_is (k.Comma x y) y.of line ∙ ap (λ o. agreed (kind_sort (k.Comma x y) o) o) g.typed ∙ ap (λ s. agreed s (Some g.of)) (comma_kind x y (Some g.of) h ∙ ap typing.comma_of g.sort) ∙ agreed_value g.of false;
+    sort = sort_is (k.Comma x y) y.of line
+        ∙ ap (λ o. agreed (kind_sort (k.Comma x y) o) o) g.typed
+        ∙ ap (λ s. agreed s (Some g.of)) (comma_kind x y (Some g.of) h ∙ ap typing.comma_of g.sort)
+        ∙ agreed_value g.of false;
     typed = g.typed;
   }
 
@@ -210,7 +219,9 @@ module _ (names : Names) where
     place = false;
     sort = sort_is (k.Bump up before x) x.of line
         ∙ ap (λ o. agreed (kind_sort (k.Bump up before x) o) o) h.typed
-        ∙ ap (λ s. agreed s (Some h.of)) (ap (λ s. s (Some h.of)) (ap kind_sort (sym (rolls-Bump up before x)) ∙ kind_roll (PKind-F.Bump up before x)) ∙ stored_kind (sort_of names x) h.of (λ of. Value of false) h.sort)
+        ∙ ap (λ s. agreed s (Some h.of))
+        (ap (λ s. s (Some h.of)) (ap kind_sort (sym (rolls-Bump up before x)) ∙ kind_roll (PKind-F.Bump up before x))
+        ∙ stored_kind (sort_of names x) h.of (λ of. Value of false) h.sort)
         ∙ agreed_value h.of false;
     typed = h.typed;
   }
@@ -221,7 +232,10 @@ module _ (names : Names) where
     place = false;
     sort = sort_is (k.Assign op x y) x.of line
         ∙ ap (λ o. agreed (kind_sort (k.Assign op x y) o) o) h.typed
-        ∙ ap (λ s. agreed s (Some h.of)) (ap (λ s. s (Some h.of)) (ap kind_sort (sym (rolls-Assign op x y)) ∙ kind_roll (PKind-F.Assign op x y)) ∙ stored_kind (sort_of names x) h.of (λ of. where_true (is_value (sort_of names y)) (Value of false)) h.sort ∙ where_is (is_value (sort_of names y)) (Value h.of false) (is_value_true y g))
+        ∙ ap (λ s. agreed s (Some h.of))
+        (ap (λ s. s (Some h.of)) (ap kind_sort (sym (rolls-Assign op x y)) ∙ kind_roll (PKind-F.Assign op x y))
+        ∙ stored_kind (sort_of names x) h.of (λ of. where_true (is_value (sort_of names y)) (Value of false)) h.sort
+        ∙ where_is (is_value (sort_of names y)) (Value h.of false) (is_value_true y g))
         ∙ agreed_value h.of false;
     typed = h.typed;
   }
@@ -231,7 +245,8 @@ module _ (names : Names) where
   call_kind : (what : Callee) (args : List PExpr) (written : Option Ctype) → kind_sort (k.Call what args) written ≡ sort_of_call names what (map (sort_of names) args)
   call_kind what args written = ap (λ s. s written) (ap kind_sort (sym (rolls-Call what args)) ∙ kind_roll (PKind-F.Call what args))
 
-  pub call_value : (what : Callee) (args : List PExpr) (of : Ctype) (line : ℕ) → sort_of_call names what (map (sort_of names) args) ≡ Value of false → IsValue (call_of what args (Some of) line)
+  pub call_value : (what : Callee) (args : List PExpr) (of : Ctype) (line : ℕ) → sort_of_call names what (map (sort_of names) args) ≡ Value of false
+      → IsValue (call_of what args (Some of) line)
   call_value what args of line h = value_typed (k.Call what args) of line false (call_kind what args (Some of) ∙ h)
 
   pub call_nothing : (what : Callee) (args : List PExpr) (line : ℕ) → sort_of_call names what (map (sort_of names) args) ≡ Void → IsNothing (call_of what args None line)
@@ -240,4 +255,6 @@ module _ (names : Names) where
   pub text_is : (t : ℕ) (bytes : List ℕ) (line : ℕ) → slice_get names.texts t ≡ Some bytes → sort_of names (text_argument t line) ≡ Text t
   text_is t bytes line h =
       sort_is (k.Text t) None line
-      ∙ ap (λ s. agreed s None) (ap (λ s. s None) (ap kind_sort (sym (rolls-Text t)) ∙ kind_roll (PKind-F.Text t)) ∙ where_is (nat_lt t (length names.texts)) (Text t) (lt-ltb t (length names.texts) (slice_get_within names.texts t bytes h)))
+      ∙ ap (λ s. agreed s None)
+      (ap (λ s. s None) (ap kind_sort (sym (rolls-Text t)) ∙ kind_roll (PKind-F.Text t))
+      ∙ where_is (nat_lt t (length names.texts)) (Text t) (lt-ltb t (length names.texts) (slice_get_within names.texts t bytes h)))

@@ -1,11 +1,11 @@
 -- Statements fit the whole program, where no rule is broken.
-use Rattle.std.proofs.Common.{◌≡◌, ℕ, zero, suc, ◌+◌, ◌≤◌, ◌<◌, Bool, true, false, List, [], ◌∷◌, ◌++◌, map, length, take, Option, Some, None, refl, sym, ap, ◌∙◌, subst, arith, append_assoc, length-append}
-use Rattle.std.specs.Prelude.{◌&&◌, ◌||◌, ◌==◌, not, nat_le, nat_lt, slice_get, is_some, is_none, unwrap_or, option_map}
-use Rattle.std.specs.List.{list_all, list_any}
+use Rattle.std.proofs.Common.{◌≡◌, ℕ, suc, ◌+◌, Bool, true, false, List, [], ◌∷◌, ◌++◌, map, length, Option, Some, None, refl, sym, ap, ◌∙◌, subst, arith, append_assoc}
+use Rattle.std.proofs.Common.{length-append}
+use Rattle.std.specs.Prelude.{◌||◌, ◌==◌, not, is_none, unwrap_or, option_map}
+use Rattle.std.specs.List.{list_any}
 use denote.Hole.Carrier.{out, roll}
-use Rattle.std.proofs.lemmas.List.{append-nil, length-map, map-append}
-use Rattle.std.proofs.lemmas.List.Folds.{list_all-append, list_any-append}
-use Rattle.std.proofs.lemmas.Bool.{leb-true, ltb-true, lt-ltb}
+use Rattle.std.proofs.lemmas.List.{append-nil}
+use Rattle.std.proofs.lemmas.List.Folds.{list_any-append}
 use Rattle.nm_base.specs.declared.operator.Ctype.{Ctype}
 use Rattle.c_tree.specs.declared.program.Slot.{Slot}
 use Rattle.c_tree.specs.declared.program.Start.{Start}
@@ -20,27 +20,23 @@ use Rattle.c_tree.specs.declared.program.PStmt.TheVariants as p
 use Rattle.c_tree.specs.declared.tree.Expr.{Expr}
 use Rattle.c_tree.specs.declared.tree.Vars.{Vars}
 use Rattle.c_tree.specs.declared.tree.Label.{Label}
-use Rattle.c_tree.specs.declared.tree.Arm.{Arm, roll-Arm, out-roll-Arm}
-use Rattle.c_tree.specs.declared.tree.Stmt.{Stmt, roll-Stmt, out-Stmt, out-roll-Stmt}
-use Rattle.c_tree.specs.declared.tree.Stmt.TheOpen.{Stmt-F, Arm-F}
-use Rattle.c_tree.specs.declared.tree.Stmt.TheBlock.{the_family as stmt_family, the_fold as stmt_fold, body-Stmt, body-Arm, lays-Stmt, lays-Arm}
-use Rattle.c_tree.specs.declared.tree.Stmt.TheFolds.{ind-Stmt, family as stmts, steps as stmt_steps, map-Stmt, map_is-Stmt, map-Arm, map_is-Arm}
 use Rattle.c_tree.specs.Typing as typing
 use Rattle.c_tree.specs.Checks as checks
-use Rattle.c_tree.specs.Checks.{StmtCheck, ArmCheck, all_fine, blocks_of, arms_fine, blocks_of_arms, labels_of, labels_differ, same_label, has_labels, in_loop, in_switch, value_fits, effect_fits, test_fits, return_fits, start_fits, else_fine, else_blocks, check_of, check_step, is_block_slot, in_order, blocks_fit}
-use Rattle.c_checker.specs.declared.fault.CheckFault.{CheckFault}
-use Rattle.c_checker.specs.declared.fault.CheckFault.TheVariants.{VoidValue, BreakOutside, ContinueOutside, DoubleCase, DoubleDefault, NotConstant}
+use Rattle.c_tree.specs.Checks.{StmtCheck, ArmCheck, all_fine, blocks_of, arms_fine, blocks_of_arms, labels_of, labels_differ, same_label, has_labels, in_loop, in_switch}
+use Rattle.c_tree.specs.Checks.{value_fits, effect_fits, test_fits, return_fits, start_fits, else_fine, else_blocks, check_of, check_step, is_block_slot, in_order, blocks_fit}
+use Rattle.c_checker.specs.declared.fault.CheckFault.TheVariants.{DoubleCase, DoubleDefault}
 use Rattle.c_checker.specs.declared.headings.Heading.{Heading}
 use Rattle.c_checker.specs.declared.state.Body.{Body}
 use Rattle.c_checker.specs.declared.state.Around.{Around}
-use Rattle.c_checker.specs.Found.{Found, Check, pure, lift, note, unless, ◌>>=◌, ◌>>◌}
+use Rattle.c_checker.specs.Found.{pure, ◌>>=◌}
 use Rattle.c_checker.specs.Scope.{Names, params_of}
-use Rattle.c_checker.specs.Statements.{Writes, get, slots, visible, value, optional, constant_pattern, label_faults, new_label, case_label, label, labels, outside, inside_loop, inside_switch, StmtPart, ArmPart, sequence, else_part, return_faults, arms, begin_block, end_block, block_from, block, run, if_stmt, while_stmt, do_stmt, controls, for_stmt, break_stmt, continue_stmt, return_stmt, switch_stmt, arm, alone, plain, stmt_step, arm_step, stmt_of, arm_of}
-use Rattle.c_checker.proofs.TypedLists.{Front, front_same, nil_left, nil_right, unless_none, and_true, both_true, not_true, not_false, not_nil}
-use Rattle.c_checker.proofs.TypedSorts.{IsValue, Used, is_value_true, effect_true}
-use Rattle.c_checker.proofs.TypedBodies as bodies
-use Rattle.c_checker.proofs.TypedBodies.{take_fits, grows_same, Ended, Known, Good, good_pure, good_bind, good_weak, good_map, good_noted, good_lift, good_get, Laid, laid_then, Still, still_same, still_laid, HasValue, HasValueIfAny, UsedIfAny, value_good, optional_good}
-use Rattle.c_checker.proofs.TypedLocals.{HasPattern, pattern_is, Begun, begin_good}
+use Rattle.c_checker.specs.Statements.{Writes, slots, constant_pattern, label_faults, new_label, case_label, label, labels, outside, StmtPart, sequence, begin_block, end_block}
+use Rattle.c_checker.specs.Statements.{block_from, block, plain}
+use Rattle.c_checker.proofs.TypedLists.{unless_none, and_true, both_true, not_true, not_false}
+use Rattle.c_checker.proofs.TypedSorts.{is_value_true, effect_true}
+use Rattle.c_checker.proofs.TypedBodies.{take_fits, grows_same, Good, good_pure, good_bind, good_weak, good_map, good_noted, good_lift, good_get, Laid, laid_then, Still}
+use Rattle.c_checker.proofs.TypedBodies.{still_same, still_laid, HasValue, UsedIfAny}
+use Rattle.c_checker.proofs.TypedLocals.{pattern_is, Begun, begin_good}
 
 -- ---- labels
 
@@ -61,8 +57,8 @@ differ_more (x ∷ xs) l d h =
     let b = both_true (not (list_any (same_label x) xs)) (labels_differ xs) d in
     let o = or_false (same_label x l) (list_any (λ x. same_label x l) xs) h in
     and_true
-      (not_false (list_any (same_label x) (xs ++ l ∷ [])) (list_any-append (same_label x) xs (l ∷ []) ∙ false_or (not_true (list_any (same_label x) xs) b.0) (false_or o.0 refl)))
-      (differ_more xs l b.1 o.1)
+    (not_false (list_any (same_label x) (xs ++ l ∷ [])) (list_any-append (same_label x) xs (l ∷ []) ∙ false_or (not_true (list_any (same_label x) xs) b.0) (false_or o.0 refl)))
+    (differ_more xs l b.1 o.1)
 
 default_alike : (line : ℕ) (x : PLabel) → same_label x (record { value = None; line = line }) ≡ is_none x.value
 default_alike line x = by x.value
@@ -78,11 +74,16 @@ case_alike n line x = by x.value
     by None = refl
     by (Some m) = refl
 
-label_differs : (before : List PLabel) (o : Option ℕ) (line : ℕ) → label_faults before o line ≡ [] → labels_differ before ≡ true → labels_differ (before ++ record { value = o; line = line } ∷ []) ≡ true
+label_differs : (before : List PLabel) (o : Option ℕ) (line : ℕ) → label_faults before o line ≡ [] → labels_differ before ≡ true
+    → labels_differ (before ++ record { value = o; line = line } ∷ []) ≡ true
 label_differs before None line h d =
-    differ_more before _ d (any_alike (λ x. same_label x (record { value = None; line = line })) (λ l. is_none l.value) (default_alike line) before ∙ not_true _ (unless_none _ (DoubleDefault line) h))
+    differ_more before _ d
+    (any_alike (λ x. same_label x (record { value = None; line = line })) (λ l. is_none l.value) (default_alike line) before
+    ∙ not_true _ (unless_none _ (DoubleDefault line) h))
 label_differs before (Some n) line h d =
-    differ_more before _ d (any_alike (λ x. same_label x (record { value = Some n; line = line })) (λ l. unwrap_or (option_map (λ m. m == n) l.value) false) (case_alike n line) before ∙ not_true _ (unless_none _ (DoubleCase line) h))
+    differ_more before _ d
+    (any_alike (λ x. same_label x (record { value = Some n; line = line })) (λ l. unwrap_or (option_map (λ m. m == n) l.value) false) (case_alike n line) before
+    ∙ not_true _ (unless_none _ (DoubleCase line) h))
 
 module _ (final : typing.Names) (functions : List Heading) (ps : List Slot) where
   -- labels after those of the switch before them
@@ -105,11 +106,11 @@ module _ (final : typing.Names) (functions : List Heading) (ps : List Slot) wher
   label_good names before (Some e) line =
       let found = constant_pattern names e in
       good_bind final functions ps {f = λ n. case_label before n line}
-        (good_lift final functions ps {Q = λ s x t. ((found.faults ≡ []) × (x ≡ found.value)) × Still final functions ps s t} found (λ h s. ((h, refl), still_same final functions ps s))) (λ n.
+      (good_lift final functions ps {Q = λ s x t. ((found.faults ≡ []) × (x ≡ found.value)) × Still final functions ps s t} found (λ h s. ((h, refl), still_same final functions ps s))) (λ n.
       good_weak final functions ps (case_good before n line) (λ t xs u k s h.
-        let is = pattern_is names e h.0.0 in
-        let made = k is.bits (h.0.1 ∙ is.is) in
-        record { count = made.count; differ = made.differ; still = record { slots = made.still.slots ∙ h.1.slots; blocks = made.still.blocks ∙ h.1.blocks } }))
+      let is = pattern_is names e h.0.0 in
+      let made = k is.bits (h.0.1 ∙ is.is) in
+      record { count = made.count; differ = made.differ; still = record { slots = made.still.slots ∙ h.1.slots; blocks = made.still.blocks ∙ h.1.blocks } }))
 
   -- labels of one arm after some of them
   pub record LabelsAfter (before these : List PLabel) (n : ℕ) (s : Body) (all : List PLabel) (t : Body) : Type 0 where
@@ -117,7 +118,8 @@ module _ (final : typing.Names) (functions : List Heading) (ps : List Slot) wher
     pub differ : labels_differ (before ++ these) ≡ true → labels_differ (before ++ all) ≡ true
     pub still : Still final functions ps s t
 
-  labels_then : (before these xs all : List PLabel) (n : ℕ) (s t u : Body) → Labels (before ++ these) 1 s xs t → LabelsAfter before (these ++ xs) n t all u → LabelsAfter before these (suc n) s all u
+  labels_then : (before these xs all : List PLabel) (n : ℕ) (s t u : Body) → Labels (before ++ these) 1 s xs t → LabelsAfter before (these ++ xs) n t all u
+      → LabelsAfter before these (suc n) s all u
   labels_then before these xs all n s t u h g = record {
     count = omega (arith, g.count, length-append these xs, h.count);
     differ = λ d. g.differ (subst (λ l. labels_differ l ≡ true) (append_assoc before these xs) (h.differ d));
@@ -136,7 +138,8 @@ module _ (names : typing.Names) (result : Option Ctype) where
   abbrev pub check_arm : PArm → ArmCheck
   check_arm x = laid-PArm (pstmts StmtCheck ArmCheck) (pstmt_steps StmtCheck ArmCheck (check_step names result) (checks.arm_step names result)) x
 
-  pub check_roll : (x : PStmt-F PStmt PArm) → check_of names result (roll-PStmt x) ≡ check_step names result (map-PStmt PStmt PArm StmtCheck ArmCheck (check_of names result) check_arm x)
+  pub check_roll : (x : PStmt-F PStmt PArm)
+      → check_of names result (roll-PStmt x) ≡ check_step names result (map-PStmt PStmt PArm StmtCheck ArmCheck (check_of names result) check_arm x)
   unfolding out-PStmt roll-PStmt out
   check_roll x =
       let A = pstmts StmtCheck ArmCheck in
@@ -154,7 +157,8 @@ module _ (names : typing.Names) (result : Option Ctype) where
       ∙ ap (λ l. checks.arm_step names result ((body-PArm).map pstmt_family A (pstmt_fold A S) l)) (out-roll-PArm x)
       ∙ ap (checks.arm_step names result) (map_is-PArm pstmt_family A (pstmt_fold A S) x)
 
-  pub check_block : (xs : List Start) (ys : List PStmt) (line : ℕ) → check_of names result (p.Block xs ys line) ≡ check_step names result (PStmt-F.Block xs (map (check_of names result) ys) line)
+  pub check_block : (xs : List Start) (ys : List PStmt) (line : ℕ)
+      → check_of names result (p.Block xs ys line) ≡ check_step names result (PStmt-F.Block xs (map (check_of names result) ys) line)
   check_block xs ys line = ap (check_of names result) (sym (p.rolls-Block xs ys line)) ∙ check_roll (PStmt-F.Block xs ys line)
 
   pub check_empty : (line : ℕ) → check_of names result (p.Empty line) ≡ check_step names result (PStmt-F.Empty line)
@@ -166,7 +170,8 @@ module _ (names : typing.Names) (result : Option Ctype) where
   pub check_if : (x : PExpr) (y : PStmt) (line : ℕ) → check_of names result (p.If x y None line) ≡ check_step names result (PStmt-F.If x (check_of names result y) None line)
   check_if x y line = ap (check_of names result) (sym (p.rolls-If x y None line)) ∙ check_roll (PStmt-F.If x y None line)
 
-  pub check_if_else : (x : PExpr) (y z : PStmt) (line : ℕ) → check_of names result (p.If x y (Some z) line) ≡ check_step names result (PStmt-F.If x (check_of names result y) (Some (check_of names result z)) line)
+  pub check_if_else : (x : PExpr) (y z : PStmt) (line : ℕ)
+      → check_of names result (p.If x y (Some z) line) ≡ check_step names result (PStmt-F.If x (check_of names result y) (Some (check_of names result z)) line)
   check_if_else x y z line = ap (check_of names result) (sym (p.rolls-If x y (Some z) line)) ∙ check_roll (PStmt-F.If x y (Some z) line)
 
   pub check_while : (x : PExpr) (y : PStmt) (line : ℕ) → check_of names result (p.While x y line) ≡ check_step names result (PStmt-F.While x (check_of names result y) line)
@@ -175,7 +180,8 @@ module _ (names : typing.Names) (result : Option Ctype) where
   pub check_do : (y : PStmt) (x : PExpr) (line : ℕ) → check_of names result (p.Do y x line) ≡ check_step names result (PStmt-F.Do (check_of names result y) x line)
   check_do y x line = ap (check_of names result) (sym (p.rolls-Do y x line)) ∙ check_roll (PStmt-F.Do y x line)
 
-  pub check_for : (x y z : Option PExpr) (b : PStmt) (line : ℕ) → check_of names result (p.For x y z b line) ≡ check_step names result (PStmt-F.For x y z (check_of names result b) line)
+  pub check_for : (x y z : Option PExpr) (b : PStmt) (line : ℕ)
+      → check_of names result (p.For x y z b line) ≡ check_step names result (PStmt-F.For x y z (check_of names result b) line)
   check_for x y z b line = ap (check_of names result) (sym (p.rolls-For x y z b line)) ∙ check_roll (PStmt-F.For x y z b line)
 
   pub check_break : (line : ℕ) → check_of names result (p.Break line) ≡ check_step names result (PStmt-F.Break line)
@@ -190,7 +196,8 @@ module _ (names : typing.Names) (result : Option Ctype) where
   pub check_switch : (x : PExpr) (ys : List PArm) (line : ℕ) → check_of names result (p.Switch x ys line) ≡ check_step names result (PStmt-F.Switch x (map check_arm ys) line)
   check_switch x ys line = ap (check_of names result) (sym (p.rolls-Switch x ys line)) ∙ check_roll (PStmt-F.Switch x ys line)
 
-  pub check_arm_is : (ls : List PLabel) (ys : List PStmt) → check_arm (record { labels = ls; list = ys }) ≡ record { labels = ls; is_fine = all_fine (map (check_of names result) ys); blocks = blocks_of (map (check_of names result) ys) }
+  pub check_arm_is : (ls : List PLabel) (ys : List PStmt)
+      → check_arm (record { labels = ls; list = ys }) ≡ record { labels = ls; is_fine = all_fine (map (check_of names result) ys); blocks = blocks_of (map (check_of names result) ys) }
   unfolding out roll
   check_arm_is ls ys = arm_roll (record { labels = ls; list = ys })
 
@@ -252,7 +259,8 @@ module _ (final : typing.Names) (functions : List Heading) (ps : List Slot) (res
     pub fine : all_fine (checks_of more) (around_of around) ≡ true
     pub laid : Lays s t (blocks_of (checks_of more))
 
-  stmts_then : (before : List PStmt) (around : Around) (y : PStmt) (all : List PStmt) (s t u : Body) → StmtFits around s y t → StmtsAfter (before ++ y ∷ []) around t all u → StmtsAfter before around s all u
+  stmts_then : (before : List PStmt) (around : Around) (y : PStmt) (all : List PStmt) (s t u : Body) → StmtFits around s y t → StmtsAfter (before ++ y ∷ []) around t all u
+      → StmtsAfter before around s all u
   stmts_then before around y all s t u h g = record {
     more = y ∷ g.more;
     is = g.is ∙ append_assoc before (y ∷ []) g.more;
@@ -276,26 +284,31 @@ module _ (final : typing.Names) (functions : List Heading) (ps : List Slot) (res
   abbrev pub BodyFits : Around → Body → PStmt → Body → Type 0
   BodyFits around s y t = StmtFits around s y t × ((check_of final result y).is_block ≡ true)
 
-  block_laid : (s t u v : Body) (xs : List Start) (bs : List (List ℕ)) → Begun final functions ps result s xs t → Lays t u bs → Still final functions ps u v → Lays s v (map (λ (x : Start). x.slot) xs ∷ bs)
+  block_laid : (s t u v : Body) (xs : List Start) (bs : List (List ℕ)) → Begun final functions ps result s xs t → Lays t u bs → Still final functions ps u v
+      → Lays s v (map (λ (x : Start). x.slot) xs ∷ bs)
   block_laid s t u v xs bs b l e rest h =
       let inner = l rest (of_still u v e rest h) in
       and_true (and_true b.order b.block)
-        (ap (λ n. blocks_fit final.slots n (s.blocks + 1) (bs ++ rest)) (sym b.count) ∙ ap (λ n. blocks_fit final.slots (slots t) n (bs ++ rest)) (sym b.blocks) ∙ inner)
+      (ap (λ n. blocks_fit final.slots n (s.blocks + 1) (bs ++ rest)) (sym b.count) ∙ ap (λ n. blocks_fit final.slots (slots t) n (bs ++ rest)) (sym b.blocks) ∙ inner)
 
-  block_fits : (around : Around) (line : ℕ) (xs : List Start) (ys : List PStmt) (s t u v : Body) → Begun final functions ps result s xs t → StmtsAfter [] around t ys u → Still final functions ps u v → BodyFits around s (p.Block xs ys line) v
+  block_fits : (around : Around) (line : ℕ) (xs : List Start) (ys : List PStmt) (s t u v : Body) → Begun final functions ps result s xs t → StmtsAfter [] around t ys u
+      → Still final functions ps u v → BodyFits around s (p.Block xs ys line) v
   block_fits around line xs ys s t u v b g e =
-      let is = check_block final result xs ys line in
-      ( along is (record {
+      let is = check_block final result xs ys line in (
+        along is (record {
           fine = and_true b.fine (ap (λ l. all_fine (checks_of l) (around_of around)) g.is ∙ g.fine);
           laid = block_laid s t u v xs (blocks_of (checks_of ys)) b (subst (λ l. Lays t u (blocks_of (checks_of l))) (sym g.is) g.laid) e;
-        })
-      , ap (λ c. c.is_block) is )
+        }),
+        ap (λ c. c.is_block) is,
+      )
 
-  pub block_from_good : (from : ℕ) (vs : List Vars) (xs : List StmtPart) (line : ℕ) (around : Around) → AllCheck xs → Good final functions ps (block_from functions from vs xs line around) (BodyFits around)
+  pub block_from_good : (from : ℕ) (vs : List Vars) (xs : List StmtPart) (line : ℕ) (around : Around) → AllCheck xs
+      → Good final functions ps (block_from functions from vs xs line around) (BodyFits around)
   block_from_good from vs list line around h =
-      good_get final functions ps {f = λ s. begin_block functions from vs >>= (λ xs. sequence [] list around >>= (λ ys. end_block functions (length s.entries) >>= (λ u. pure (p.Block xs ys line))))} (λ x.
-      good_bind final functions ps {f = λ xs. sequence [] list around >>= (λ ys. end_block functions (length x.entries) >>= (λ u. pure (p.Block xs ys line)))} (begin_good final functions ps result from vs) (λ xs.
-      good_bind final functions ps {f = λ ys. end_block functions (length x.entries) >>= (λ u. pure (p.Block xs ys line))} (sequence_good [] list around h) (λ ys.
+      let ended : ℕ → List Start → List PStmt → Writes PStmt = λ n xs ys. end_block functions n >>= (λ u. pure (p.Block xs ys line)) in
+      good_get final functions ps {f = λ s. begin_block functions from vs >>= (λ xs. sequence [] list around >>= ended (length s.entries) xs)} (λ x.
+      good_bind final functions ps {f = λ xs. sequence [] list around >>= ended (length x.entries) xs} (begin_good final functions ps result from vs) (λ xs.
+      good_bind final functions ps {f = ended (length x.entries) xs} (sequence_good [] list around h) (λ ys.
       good_map final functions ps (λ u. p.Block xs ys line) (end_good (length x.entries)) (λ u w v e t g s b same. block_fits around line xs ys s t u v b g e))))
 
   pub block_good : (vs : List Vars) (xs : List StmtPart) (line : ℕ) (around : Around) → AllCheck xs → Good final functions ps (block functions vs xs line around) (StmtFits around)
@@ -308,7 +321,8 @@ module _ (final : typing.Names) (functions : List Heading) (ps : List Slot) (res
     pub check : CheckFits x
     pub body : (from : ℕ) → Good final functions ps (x.body from) (BodyFits outside)
 
-  pub plain_fits : (line : ℕ) (check : Around → Writes PStmt) → ((around : Around) → Good final functions ps (check around) (StmtFits around)) → PartFits (plain functions line check)
+  pub plain_fits : (line : ℕ) (check : Around → Writes PStmt) → ((around : Around) → Good final functions ps (check around) (StmtFits around))
+      → PartFits (plain functions line check)
   plain_fits line check h = record {
     check = h;
     body = λ from. block_from_good from [] (record { check = check; body = λ _. check outside } ∷ []) line outside (h, tt);

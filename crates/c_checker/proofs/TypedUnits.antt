@@ -1,11 +1,10 @@
 -- What is declared fits the whole program, where no rule is broken.
-use Rattle.std.proofs.Common.{◌≡◌, ℕ, zero, suc, ◌+◌, ◌≤◌, ◌<◌, Bool, true, false, List, [], ◌∷◌, ◌++◌, map, length, Option, Some, None, refl, sym, ap, ◌∙◌, subst, arith, append_assoc, length-append}
-use Rattle.std.specs.Prelude.{◌&&◌, ◌||◌, ◌==◌, not, nat_le, nat_lt, slice_get, slice_set, is_some, is_none, unwrap_or, if◌then◌else◌, codes}
+use Rattle.std.proofs.Common.{◌≡◌, ℕ, zero, suc, ◌+◌, ◌≤◌, ◌<◌, Bool, true, false, List, [], ◌∷◌, ◌++◌, length, Option, Some, None, refl, sym, ap, ◌∙◌, subst, arith, length-append}
+use Rattle.std.specs.Prelude.{◌||◌, ◌==◌, not, nat_le, nat_lt, slice_get, is_some, is_none, if◌then◌else◌, codes}
 use Rattle.std.specs.Str.{bytes_eq}
 use Rattle.std.specs.List.{list_all}
-use Rattle.std.proofs.lemmas.List.{append-nil, length-set}
 use Rattle.std.proofs.lemmas.List.Folds.{list_all-append}
-use Rattle.std.proofs.lemmas.Bool.{eqb-true, leb-true, le-leb, eq-eqb, ltb-true, lt-ltb}
+use Rattle.std.proofs.lemmas.Bool.{leb-true, ltb-true}
 use Rattle.std.proofs.lemmas.Slice.Eq.{bytes_eq-Decides}
 use Rattle.nm_base.specs.declared.operator.Ctype.{Ctype}
 use Rattle.c_tree.specs.declared.program.Global.{Global}
@@ -13,34 +12,30 @@ use Rattle.c_tree.specs.declared.program.Function.{Function}
 use Rattle.c_tree.specs.declared.program.Slot.{Slot}
 use Rattle.c_tree.specs.declared.program.Target.{Target}
 use Rattle.c_tree.specs.declared.program.Target.TheVariants.{Global as AGlobal, Slot as ASlot}
-use Rattle.c_tree.specs.declared.tree.Item.{Item}
-use Rattle.c_tree.specs.declared.tree.Item.TheVariants as i
 use Rattle.c_tree.specs.declared.tree.Head.{Head}
 use Rattle.c_tree.specs.declared.tree.Param.{Param}
 use Rattle.c_tree.specs.declared.tree.Declr.{Declr}
 use Rattle.c_tree.specs.declared.tree.Expr.{Expr}
-use Rattle.c_tree.specs.declared.tree.Stmt.{Stmt}
 use Rattle.c_tree.specs.Storage.{words_of, words_of_global}
 use Rattle.c_tree.specs.Typing as typing
 use Rattle.c_tree.specs.Typing.{Sort, Value, Array, sort_of_global, named}
-use Rattle.c_tree.specs.Checks.{is_name, is_size, global_fits, param_fits, local_fits, function_fits}
+use Rattle.c_tree.specs.Checks.{is_name, is_size, global_fits, param_fits, function_fits}
 use Rattle.c_checker.specs.declared.fault.CheckFault.TheVariants.{Twice, TooMany, BadSize}
 use Rattle.c_checker.specs.declared.headings.Heading.{Heading}
 use Rattle.c_checker.specs.declared.entries.Entry.{Entry}
 use Rattle.c_checker.specs.declared.entries.Thing.{Thing}
 use Rattle.c_checker.specs.declared.entries.Thing.TheVariants as t
-use Rattle.c_checker.specs.declared.state.Body.{Body}
 use Rattle.c_checker.specs.declared.state.File.{File}
-use Rattle.c_checker.specs.Found.{Found, unless, ◌>>=◌, ◌>>◌}
+use Rattle.c_checker.specs.Found.{Found, unless}
 use Rattle.c_checker.specs.Scope.{Names, variable, built_in, latest, find, params_of, params_of_heading, is_taken}
 use Rattle.c_checker.specs.Statements.{declr_faults, size}
-use Rattle.c_checker.specs.Units.{Files, visible, initial, global_of, global_faults, count_words, global_entry, add_global, global, globals, slot_of_param, param_name_faults, param_faults, params, later_head, heading_of, first_faults, first_head, head_of, head}
-use Rattle.c_checker.proofs.TypedLists.{Front, front_same, front_more, front_then, front_last, get_next, nil_left, nil_right, unless_none, and_true, both_true, not_nil}
+use Rattle.c_checker.specs.Units.{visible, initial, global_of, global_entry, global, globals, slot_of_param, param_name_faults, params, heading_of, first_head, head_of, head}
+use Rattle.c_checker.proofs.TypedLists.{Front, front_then, front_last, get_next, nil_left, nil_right, unless_none, and_true, both_true, not_nil}
 use Rattle.c_checker.proofs.TypedReads.{AllShort}
 use Rattle.c_checker.proofs.TypedParts.{ThingFits, SameParams}
 use Rattle.c_checker.proofs.TypedBodies.{EntriesFit}
 use Rattle.c_checker.proofs.TypedLocals.{size_is, declr_is}
-use Rattle.c_checker.proofs.TypedHeads.{HeadsFront, heads_same, heads_more, heads_length, FunctionsFit, functions_before, FunctionAt, function_at, GrowsFile, file_same, file_then, globals_grow}
+use Rattle.c_checker.proofs.TypedHeads.{FunctionsFit, functions_before, function_at, GrowsFile, globals_grow}
 
 -- ---- names
 
@@ -70,7 +65,7 @@ module _ (name : List ℕ) where
   latest_named found (e ∷ es) h g =
       let b = both_true (is_name e.name) (list_all (λ (e : Entry). is_name e.name) es) h in
       latest_named (if bytes_eq e.name name then e.thing else found) es b.1
-        (if_named (bytes_eq e.name name) e.thing found (λ same f r is. ap is_name (sym ((bytes_eq-Decides e.name name).0 same)) ∙ b.0) g)
+      (if_named (bytes_eq e.name name) e.thing found (λ same f r is. ap is_name (sym ((bytes_eq-Decides e.name name).0 same)) ∙ b.0) g)
 
   pub found_named : (es : List Entry) → list_all (λ (e : Entry). is_name e.name) es ≡ true → IsNamed (find es name)
   found_named es h = latest_named (built_in name) es h built_in_named
@@ -137,7 +132,8 @@ module _ (G : List Global) (F : List Function) (T : List (List ℕ)) where
   heading_below (h ∷ hs) zero l = (h, refl)
   heading_below (h ∷ hs) (suc f) l = heading_below hs f (omega (arith, l))
 
-  function_thing : (slots : List Slot) (hs : List Heading) (f : ℕ) (result : Option Ctype) → FunctionsFit hs F → FunctionIn (length hs) f result → ThingFits (names_with slots) (params_of hs) (t.Function f result)
+  function_thing : (slots : List Slot) (hs : List Heading) (f : ℕ) (result : Option Ctype) → FunctionsFit hs F → FunctionIn (length hs) f result
+      → ThingFits (names_with slots) (params_of hs) (t.Function f result)
   function_thing slots hs f result fit a =
       let h = heading_below hs f a.below in
       let r = function_at hs F f h.0 fit h.1 in
@@ -243,7 +239,8 @@ module _ (G : List Global) (F : List Function) (T : List (List ℕ)) where
         let f = global_fine h in
         let words : (global of d s).state.words ≡ s.words + words_of_global made = ap (λ b. if b then s.words + words_of_global made else s.words) f.words in
         record {
-          entries = entries_and (length s.headings) s.entries (global_entry of d sized.value (length s.globals) ∷ []) k.entries (entry_fits (length s.headings) (length s.globals) made (front_last s.globals made e.globals), tt);
+          entries = entries_and (length s.headings) s.entries (global_entry of d sized.value (length s.globals) ∷ []) k.entries
+              (entry_fits (length s.headings) (length s.globals) made (front_last s.globals made e.globals), tt);
           named = list_all-append (λ (e : Entry). is_name e.name) s.entries (global_entry of d sized.value (length s.globals) ∷ []) ∙ and_true k.named (and_true f.name refl);
           globals = list_all-append global_fits s.globals (made ∷ []) ∙ and_true k.globals (and_true (and_true (and_true f.name f.length) (start_is (visible s) d.size d.start d.line f.array)) refl);
           many = omega (arith, f.few, length-append s.globals (made ∷ []));
@@ -272,7 +269,8 @@ module _ (G : List Global) (F : List Function) (T : List (List ℕ)) where
   param_fit x None before h = absurd (not_nil (TooMany x.line) [] [] h)
   param_fit x (Some name) before h = and_true (and_true (unless_none (is_name name) (TooMany x.line) (nil_left (unless (is_name name) (TooMany x.line)) _ h)) refl) refl
 
-  pub params_fit : (names : Names) (before : List Slot) (more : List Param) → ParamsFit before → (params names true before more).faults ≡ [] → ParamsFit (params names true before more).value
+  pub params_fit : (names : Names) (before : List Slot) (more : List Param) → ParamsFit before → (params names true before more).faults ≡ []
+      → ParamsFit (params names true before more).value
   params_fit names before [] a h = a
   params_fit names before (x ∷ more) a h =
       let own = param_name_faults true before x.name x.line in
@@ -281,11 +279,11 @@ module _ (G : List Global) (F : List Function) (T : List (List ℕ)) where
       let rest = params names true (before ++ slot_of_param x ∷ []) more in
       let first = nil_left (own ++ many) (n.faults ++ rest.faults) h in
       params_fit names (before ++ slot_of_param x ∷ []) more
-        (record {
-          fit = list_all-append param_fits before (slot_of_param x ∷ []) ∙ and_true a.fit (and_true (param_fit x x.name before (nil_left own many first)) refl);
-          few = omega (arith, ltb-true (length before) 31 (unless_none (nat_lt (length before) 31) (TooMany x.line) (nil_right own many first)), length-append before (slot_of_param x ∷ []));
-        })
-        (nil_right n.faults rest.faults (nil_right (own ++ many) (n.faults ++ rest.faults) h))
+      (record {
+        fit = list_all-append param_fits before (slot_of_param x ∷ []) ∙ and_true a.fit (and_true (param_fit x x.name before (nil_left own many first)) refl);
+        few = omega (arith, ltb-true (length before) 31 (unless_none (nat_lt (length before) 31) (TooMany x.line) (nil_right own many first)), length-append before (slot_of_param x ∷ []));
+      })
+      (nil_right n.faults rest.faults (nil_right (own ++ many) (n.faults ++ rest.faults) h))
 
   bodies_more : (hs : List Heading) (h : Heading) → BodiesFit hs → BodyFits h.body → BodiesFit (hs ++ h ∷ [])
   bodies_more [] h a b = (b, tt)
@@ -323,7 +321,8 @@ module _ (G : List Global) (F : List Function) (T : List (List ℕ)) where
         name = named;
       }
 
-  head_by : (x : Thing) (h : Head) (xs : List Slot) (defines : Bool) (s : File) → find s.entries h.name ≡ x → (head_of x h xs defines s).faults ≡ [] → FileEnd (head_of x h xs defines s).state → KnownFile s → AfterHead h (head_of x h xs defines s).state
+  head_by : (x : Thing) (h : Head) (xs : List Slot) (defines : Bool) (s : File) → find s.entries h.name ≡ x → (head_of x h xs defines s).faults ≡ []
+      → FileEnd (head_of x h xs defines s).state → KnownFile s → AfterHead h (head_of x h xs defines s).state
   head_by (t.Function f result) h xs defines s is n e k = record { known = k; name = found_named h.name s.entries k.named f result is }
   head_by (t.Scalar what of) h xs defines s is n e k = first_keeps h xs s n e k
   head_by (t.Array what of) h xs defines s is n e k = first_keeps h xs s n e k
