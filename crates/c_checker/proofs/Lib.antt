@@ -2,6 +2,7 @@ pub mod Calls
 mod Examples
 pub mod Forms
 pub mod Found
+pub mod StmtForms
 pub mod TypedBodies
 pub mod TypedExprs
 pub mod TypedForms
