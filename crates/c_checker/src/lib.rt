@@ -9,6 +9,7 @@ mod fault;
 mod format;
 mod headings;
 mod laws;
+mod program;
 mod scope;
 mod state;
 mod types;
