@@ -14,7 +14,7 @@ use crate::headings::Heading;
 use crate::state::File;
 use crate::types::same_type;
 use c_tree::{Head, Param, Slot};
-use nm_base::{Bytes, Ctype, List};
+use nm_base::{Bytes, Ctype, List, WantOfMemory};
 use std::alloc::Global;
 
 /// The most parameters of a function.
@@ -67,7 +67,7 @@ fn test_param(defines: bool, before: &[Slot], param: &Param) -> Result<(), Check
     Ok(())
 }
 
-fn copy_name(alloc: Global, name: &Option<Bytes>) -> Result<Bytes, CheckFault>
+fn copy_name(alloc: Global, name: &Option<Bytes>) -> Result<Bytes, WantOfMemory>
     ensures { IfOk result (λ b. b ≡ unwrap_or name.now []) }
 {
     match name {
@@ -77,7 +77,7 @@ fn copy_name(alloc: Global, name: &Option<Bytes>) -> Result<Bytes, CheckFault>
 }
 
 /// The slot of a parameter.
-fn slot_of_param(alloc: Global, param: &Param) -> Result<Slot, CheckFault>
+fn slot_of_param(alloc: Global, param: &Param) -> Result<Slot, WantOfMemory>
     ensures { IfOk result (λ x. x ≡ spec.slot_of_param param.now) }
 {
     Ok(Slot {
@@ -111,17 +111,14 @@ fn same_kind(a: &Slot, b: &Slot) -> bool
     same_type(a.of, b.of) && a.array_param == b.array_param
 }
 
-fn same_kinds(mut a: &[Slot], mut b: &[Slot]) -> bool
-    ensures { result ≡ spec.same_kinds a.entry.now b.entry.now }
+fn same_kinds(a: &[Slot], b: &[Slot]) -> bool
+    ensures { result ≡ spec.same_kinds a.now b.now }
 {
-    while let ([x, xs @ ..], [y, ys @ ..]) = (a, b) {
-        if !same_kind(x, y) {
-            return false;
-        }
-        a = xs;
-        b = ys;
+    match (a, b) {
+        ([], []) => true,
+        ([x, xs @ ..], [y, ys @ ..]) => same_kind(x, y) && same_kinds(xs, ys),
+        ([], [_, ..]) | ([_, ..], []) => false,
     }
-    a.is_empty() && b.is_empty()
 }
 
 fn same_result(a: Option<Ctype>, b: Option<Ctype>) -> bool
@@ -178,7 +175,7 @@ fn test_first(file: &File, head: &Head) -> Result<u32, CheckFault>
     Ok(number as u32)
 }
 
-fn copy_slot(alloc: Global, slot: &Slot) -> Result<Slot, CheckFault>
+fn copy_slot(alloc: Global, slot: &Slot) -> Result<Slot, WantOfMemory>
     ensures { IfOk result (λ x. x ≡ slot.now) }
 {
     Ok(Slot {
@@ -190,7 +187,7 @@ fn copy_slot(alloc: Global, slot: &Slot) -> Result<Slot, CheckFault>
     })
 }
 
-fn copy_slots(alloc: Global, mut slots: &[Slot]) -> Result<List<Slot>, CheckFault>
+fn copy_slots(alloc: Global, mut slots: &[Slot]) -> Result<List<Slot>, WantOfMemory>
     ensures { IfOk result (λ xs. xs ≡ slots.entry.now) }
 {
     let mut copy = List::from_vec(Vec::new(alloc));
