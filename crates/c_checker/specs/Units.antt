@@ -185,7 +185,7 @@ body_begin s xs = record { texts = s.texts; params = length xs; locals = []; ent
 
 -- The names of the outermost block begin with the parameters.
 abbrev pub body_of : File → Head → List Slot → Stmt → Found Body Function
-body_of s h xs body = 
+body_of s h xs body =
     let b = (stmt_of s.headings h.result body).body (length s.entries) (body_begin s xs) in
     record {
       value = record { name = h.name; result = h.result; params = xs; locals = b.state.locals; body = b.value; line = h.line };
@@ -202,10 +202,16 @@ function_of f h xs body = λ s.
       faults = b.faults;
     }
 
+abbrev pub declare : Head → Files (Unit {0})
+declare h = head h false >> pure tt
+
+abbrev pub define : Head → Stmt → Files (Unit {0})
+define h body = head h true >>= (λ x. function_of x.0 h x.1 body)
+
 abbrev pub item : Item → Files (Unit {0})
 item (i.Vars v) = globals v.of v.list
-item (i.Proto h) = head h false >> pure tt
-item (i.Function h body) = head h true >>= (λ x. function_of x.0 h x.1 body)
+item (i.Proto h) = declare h
+item (i.Function h body) = define h body
 
 abbrev pub items : List Item → Files (Unit {0})
 items [] = pure tt

@@ -1,11 +1,16 @@
 //! The functions that are declared.
 
-ghost use Rattle.std.specs.Prelude.{◌≡◌, [], ◌∷◌, ◌++◌, OnOk, OnErr};
+ghost use Rattle.std.specs.Prelude.{◌≡◌, [], ◌∷◌, ◌++◌, None, Some, IfOk, IfErr, OnOk, OnErr};
+ghost use Rattle.c_checker.specs.declared.fault.CheckFault.TheVariants.{NoBody};
+ghost use Rattle.c_checker.specs.Found.{Refuses};
+ghost use Rattle.c_checker.specs.Units as spec;
 
+use crate::fault::CheckFault;
 use c_tree::{Function, Slot};
 use nm_base::{Bytes, Ctype, List};
 use std::alloc::{AllocError, Global};
 use std::marker::Model;
+use std::mem;
 
 /// A function as far as it is known.
 #[derive(Drop)]
@@ -60,5 +65,41 @@ impl Headings {
     {
         self.list.push(heading)?;
         Ok(())
+    }
+
+    /// Gives a function its body, where there is one with this number.
+    pub fn give_body(&mut self, number: u32, made: Function)
+        ensures { self.new ≡ spec.with_body self.old number made }
+    {
+        let i = number as usize;
+        if i < self.list.len() {
+            let before = mem::replace(&mut self.list[i].body, Some(made));
+            drop(before);
+        } else {
+            drop(made);
+        }
+    }
+
+    /// The functions with their bodies. One without a body is refused by the line of its first head.
+    pub fn into_functions(self, alloc: Global) -> Result<List<Function>, CheckFault>
+        ensures yes { IfOk result (λ fs. (spec.missing self ≡ []) × (fs ≡ spec.functions_of self)) }
+        ensures no { IfErr result (λ f. Refuses (spec.missing self) f) }
+    {
+        let mut functions = List::from_vec(Vec::new(alloc));
+        let mut rest = self.list.into_iter();
+        while let Some(heading) = rest.next() {
+            let function = heading.into_function()?;
+            functions.push(alloc, function)?;
+        }
+        Ok(functions)
+    }
+}
+
+impl Heading {
+    fn into_function(self) -> Result<Function, CheckFault>
+        ensures yes { IfOk result (λ f. self.body ≡ Some f) }
+        ensures no { IfErr result (λ f. (self.body ≡ None) × (f ≡ NoBody self.line)) }
+    {
+        self.body.ok_or(CheckFault::NoBody { line: self.line })
     }
 }

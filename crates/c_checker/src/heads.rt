@@ -114,10 +114,12 @@ fn same_kind(a: &Slot, b: &Slot) -> bool
 fn same_kinds(a: &[Slot], b: &[Slot]) -> bool
     ensures { result ≡ spec.same_kinds a.now b.now }
 {
-    match (a, b) {
-        ([], []) => true,
-        ([x, xs @ ..], [y, ys @ ..]) => same_kind(x, y) && same_kinds(xs, ys),
-        ([], [_, ..]) | ([_, ..], []) => false,
+    match a {
+        [] => b.is_empty(),
+        [x, xs @ ..] => match b {
+            [] => false,
+            [y, ys @ ..] => same_kind(x, y) && same_kinds(xs, ys),
+        },
     }
 }
 

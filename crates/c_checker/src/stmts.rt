@@ -424,3 +424,78 @@ pub fn stmt(
         }
     }
 }
+
+/// The list of one statement.
+#[tactic(auto, using(crate::proofs::Found::refuses_left))]
+fn only(
+    alloc: Global,
+    functions: &[Heading],
+    returns: Option<Ctype>,
+    body: &mut Body,
+    s: &Stmt,
+) -> Result<List<PStmt>, CheckFault>
+    ensures { Gives (spec.sequence [] (record { check = (stmt_of functions.now returns s.now).check; body = λ _. (stmt_of functions.now returns s.now).check spec.outside } ∷ []) spec.outside body.old) result body.new }
+{
+    let made = stmt(alloc, functions, returns, body, s, outside())?;
+    let mut list = List::from_vec(Vec::new(alloc));
+    list.push(alloc, made)?;
+    Ok(list)
+}
+
+/// A block of one statement, as a function's body.
+#[tactic(auto, using(crate::proofs::Found::refuses_left))]
+fn alone(
+    alloc: Global,
+    functions: &[Heading],
+    returns: Option<Ctype>,
+    body: &mut Body,
+    s: &Stmt,
+    from: usize,
+    line: u32,
+) -> Result<PStmt, CheckFault>
+    ensures { Gives (spec.alone functions.now (stmt_of functions.now returns s.now).check line from body.old) result body.new }
+{
+    let visible = body.entries.len();
+    let locals = begin_block(alloc, functions, body, from, &[])?;
+    let list = only(alloc, functions, returns, body, s)?;
+    body.entries.truncate(visible);
+    Ok(PStmt::Block { locals, list, line })
+}
+
+/// A function's body, in whose block the names begin at the entry `from`.
+pub fn function_body(
+    alloc: Global,
+    functions: &[Heading],
+    returns: Option<Ctype>,
+    body: &mut Body,
+    s: &Stmt,
+    from: usize,
+) -> Result<PStmt, CheckFault>
+    ensures { Gives ((stmt_of functions.now returns s.now).body from body.old) result body.new }
+{
+    match s {
+        Stmt::Block { locals, list, line } => {
+            block_from(
+                alloc,
+                functions,
+                returns,
+                body,
+                from,
+                locals.as_slice(),
+                list.as_slice(),
+                *line,
+                outside(),
+            )
+        }
+        Stmt::Empty { line }
+        | Stmt::Run { line, .. }
+        | Stmt::If { line, .. }
+        | Stmt::While { line, .. }
+        | Stmt::Do { line, .. }
+        | Stmt::For { line, .. }
+        | Stmt::Break { line }
+        | Stmt::Continue { line }
+        | Stmt::Return { line, .. }
+        | Stmt::Switch { line, .. } => alone(alloc, functions, returns, body, s, from, *line),
+    }
+}
