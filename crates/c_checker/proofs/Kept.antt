@@ -22,11 +22,16 @@ use Rattle.c_checker.specs.declared.headings.Heading.{Heading}
 use Rattle.c_checker.specs.declared.entries.Entry.{Entry}
 use Rattle.c_checker.specs.declared.state.Body.{Body}
 use Rattle.c_checker.specs.declared.state.Around.{Around}
-use Rattle.c_checker.specs.Found.{Found, pure, note, lift, ◌>>=◌, ◌>>◌}
+use Rattle.c_tree.specs.declared.program.Function.{Function}
+use Rattle.c_checker.specs.Found.{Found, fine, pure, note, lift, ◌>>=◌, ◌>>◌}
 use Rattle.c_checker.specs.Scope.{Names}
 use Rattle.c_checker.specs.Statements.{Writes, get, put, visible, value, optional, local_faults, size, new_local, add_local, declare, declares, locals, begin_block, end_block, slots, entry_of}
 use Rattle.c_checker.specs.Statements.{case_label, new_label, label_faults, label, constant_pattern, labels, outside, inside_loop, inside_switch, StmtPart, ArmPart, sequence, else_part, return_faults, arms}
 use Rattle.c_checker.specs.Statements.{block_from, block, run, if_stmt, while_stmt, do_stmt, controls, for_stmt, break_stmt, continue_stmt, return_stmt, switch_stmt, arm, alone, plain, stmt_step, arm_step, stmt_of, arm_of}
+use Rattle.c_tree.specs.declared.program.Slot.{Slot}
+use Rattle.c_tree.specs.declared.tree.Head.{Head}
+use Rattle.c_checker.specs.declared.state.File.{File}
+use Rattle.c_checker.specs.Units.{param_entries, body_begin, body_of}
 use Rattle.c_checker.proofs.StmtForms.{stmt_roll, arm_roll}
 use Rattle.c_checker.proofs.TypedLists.{Front, front_same, front_more, front_then}
 
@@ -168,7 +173,7 @@ module _ (functions : List Heading) where
 
   kept_arm : (these : List Label) (xs : List StmtPart) (before : List PLabel) (line : ℕ) (around : Around) → AllKept xs → Kept (arm functions these xs before line around)
   kept_arm these xs before line around h = record {
-    front = λ s. (kept_bind {f = λ ls. sequence [] xs around >>= (λ ys. pure (record { labels = ls; list = ys }))} (kept_labels (visible functions s) before [] these) (λ ls.
+    front = λ s. (kept_bind {B = PArm} {f = λ ls. sequence [] xs around >>= (λ ys. pure (record { labels = ls; list = ys }))} (kept_labels (visible functions s) before [] these) (λ ls.
         kept_map (λ ys. record { labels = ls; list = ys }) (kept_sequence [] xs around h))).front s;
   }
 
@@ -261,3 +266,28 @@ module _ (functions : List Heading) (result : Option Ctype) where
   -- A function's body leaves the names as they were.
   pub body_same : (x : Stmt) (from : ℕ) (s : Body) → ((stmt_of functions result x).body from s).state.entries ≡ s.entries
   body_same x from s = ((ind-Stmt TreeKeeps ArmKeeps rolled arm_rolled x).body from).same s
+
+abbrev function_of : List ℕ → Head → List Slot → List Slot → PStmt → Function
+function_of name head xs locals made = record { name = name; result = head.result; params = xs; locals = locals; body = made; line = head.line }
+
+-- After a function's body the names before it are left.
+pub body_left : (file : File) (head : Head) (xs : List Slot) (body : Stmt) → take (length file.entries) (body_of file head xs body).state.entries ≡ file.entries
+body_left file head xs body =
+    ap (take (length file.entries)) (body_same file.headings head.result body (length file.entries) (body_begin file xs))
+    ∙ take_front file.entries (file.entries ++ param_entries 0 xs) (front_more file.entries (param_entries 0 xs))
+
+-- what is known where a body breaks no rule
+pub body_done : (file left : File) (head : Head) (xs : List Slot) (body : Stmt) (made : PStmt) (t : Body) (name : List ℕ) (entries : List Entry)
+    → (stmt_of file.headings head.result body).body (length file.entries) (body_begin file xs) ≡ fine made t
+    → name ≡ head.name → left ≡ record file { texts = []; entries = [] } → entries ≡ take (length file.entries) t.entries
+    → ((body_of file head xs body).faults ≡ [])
+    × (function_of name head xs t.locals made ≡ (body_of file head xs body).value)
+    × (record left { texts = t.texts; entries = entries } ≡ record file { texts = (body_of file head xs body).state.texts })
+body_done file left head xs body made t name entries h n l e =
+    let same : entries ≡ file.entries = e ∙ ap (λ (u : Body). take (length file.entries) u.entries) (sym (ap (λ (x : Found Body PStmt). x.state) h)) ∙ body_left file head xs body in (
+      ap (λ (x : Found Body PStmt). x.faults) h,
+      ap (λ m. function_of m head xs t.locals made) n ∙ ap (λ (b : Found Body PStmt). function_of head.name head xs b.state.locals b.value) (sym h),
+      ap (λ (u : File). record u { texts = t.texts; entries = entries }) l
+      ∙ ap (λ es. record file { texts = t.texts; entries = es }) same
+      ∙ ap (λ (b : Found Body PStmt). record file { texts = b.state.texts }) (sym h),
+    )
