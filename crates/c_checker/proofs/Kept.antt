@@ -288,6 +288,6 @@ body_done file left head xs body made t name entries h n l e =
       ap (λ (x : Found Body PStmt). x.faults) h,
       ap (λ m. function_of m head xs t.locals made) n ∙ ap (λ (b : Found Body PStmt). function_of head.name head xs b.state.locals b.value) (sym h),
       ap (λ (u : File). record u { texts = t.texts; entries = entries }) l
-      ∙ ap (λ es. record file { texts = t.texts; entries = es }) same
-      ∙ ap (λ (b : Found Body PStmt). record file { texts = b.state.texts }) (sym h),
+          ∙ ap (λ es. record file { texts = t.texts; entries = es }) same
+          ∙ ap (λ (b : Found Body PStmt). record file { texts = b.state.texts }) (sym h),
     )

@@ -7,9 +7,9 @@ ghost use Rattle.c_checker.specs.Expressions as spec;
 ghost use Rattle.c_checker.specs.Expressions.{part_of, part_step};
 ghost use Rattle.c_tree.specs.declared.tree.Expr.TheOpen.{Expr-F};
 
+use crate::entries::Thing;
 use crate::fault::CheckFault;
 use crate::format::{add_text, test_format};
-use crate::entries::Thing;
 use crate::scope::Scope;
 use crate::types::{binary_type, common_type, same_type, unary_type};
 use c_tree::{BuiltIn, Callee, Expr, PExpr, PKind, Slot, Target};

@@ -9,8 +9,8 @@ ghost use Rattle.c_checker.specs.Units.{checks, Checked};
 use crate::entries::{Entries, Entry, Thing, variable};
 use crate::fault::CheckFault;
 use crate::globals::globals;
-use crate::heads::head;
 use crate::headings::{Heading, Headings};
+use crate::heads::head;
 use crate::program::program_of;
 use crate::state::{Body, File};
 use crate::stmts::function_body;
@@ -32,7 +32,11 @@ fn empty_file(alloc: Global) -> File
 }
 
 /// Makes the parameters visible, and counts them.
-fn enter_params(alloc: Global, entries: &mut Entries, mut params: &[Slot]) -> Result<u32, WantOfMemory>
+fn enter_params(
+    alloc: Global,
+    entries: &mut Entries,
+    mut params: &[Slot],
+) -> Result<u32, WantOfMemory>
     ensures { IfOk result (λ n. (entries.new ≡ entries.old ++ spec.param_entries 0 params.entry.now) × (n ≡ length params.entry.now)) }
 {
     let mut number: u32 = 0;
@@ -177,10 +181,12 @@ fn main_number(file: &File) -> Result<u32, CheckFault>
         Thing::Function { number, .. } => {
             let functions = file.headings.as_slice();
             match functions.get(number as usize) {
-                Some(Heading {
-                    body: Some(function),
-                    ..
-                }) => {
+                Some(
+                    Heading {
+                        body: Some(function),
+                        ..
+                    },
+                ) => {
                     test_main(function)?;
                     Ok(number)
                 }

@@ -10,8 +10,7 @@ use crate::body::{pattern, size, test_declr};
 use crate::entries::{Entry, variable as thing_of};
 use crate::fault::CheckFault;
 use crate::state::File;
-use c_tree::Global as Variable;
-use c_tree::{Declr, Expr, Target};
+use c_tree::{Declr, Expr, Global as Variable, Target};
 use nm_base::Ctype;
 use std::alloc::Global;
 
@@ -67,12 +66,22 @@ fn count_words(file: &mut File, variable: &Variable, line: u32) -> Result<(), Ch
 }
 
 /// Adds a global with the next number.
-fn add_global(alloc: Global, file: &mut File, d: &Declr, variable: Variable, number: u32) -> Result<(), CheckFault>
+fn add_global(
+    alloc: Global,
+    file: &mut File,
+    d: &Declr,
+    variable: Variable,
+    number: u32,
+) -> Result<(), CheckFault>
     requires named { variable ≡ spec.global_of variable.of d.now variable.length variable.start }
     requires next { number ≡ length file.old.globals }
     ensures { Gives (spec.add_global variable.of d.now variable.length variable.start file.old) result file.new }
 {
-    let thing = thing_of(Target::Global(number), variable.of, variable.length.is_some());
+    let thing = thing_of(
+        Target::Global(number),
+        variable.of,
+        variable.length.is_some(),
+    );
     file.globals.push(alloc, variable)?;
     let entry = Entry {
         name: d.name.copy(alloc)?,
@@ -102,7 +111,12 @@ fn global(alloc: Global, file: &mut File, of: Ctype, d: &Declr) -> Result<(), Ch
 
 /// Globals of one type.
 #[tactic(auto, using(crate::proofs::Found::refuses_left))]
-pub fn globals(alloc: Global, file: &mut File, of: Ctype, mut list: &[Declr]) -> Result<(), CheckFault>
+pub fn globals(
+    alloc: Global,
+    file: &mut File,
+    of: Ctype,
+    mut list: &[Declr],
+) -> Result<(), CheckFault>
     ensures { Gives (spec.globals of list.entry.now file.old) result file.new }
 {
     while let [d, rest @ ..] = list {

@@ -44,7 +44,12 @@ fn is_taken_param(name: &[u8], before: &[Slot]) -> bool
 
 /// Whether a parameter can have its name, in a definition or not.
 #[tactic(auto, using(crate::proofs::Found::refuses_left))]
-fn test_param_name(defines: bool, before: &[Slot], name: &Option<Bytes>, line: u32) -> Result<(), CheckFault>
+fn test_param_name(
+    defines: bool,
+    before: &[Slot],
+    name: &Option<Bytes>,
+    line: u32,
+) -> Result<(), CheckFault>
     ensures { Tests (spec.param_name_faults defines before.now name.now line) result }
 {
     match name {
@@ -135,7 +140,12 @@ fn same_result(a: Option<Ctype>, b: Option<Ctype>) -> bool
 
 /// Whether a later head agrees with the first one, and no second body comes.
 #[tactic(auto, using(crate::proofs::Found::refuses_left))]
-fn test_later(first: &Heading, head: &Head, params: &[Slot], defines: bool) -> Result<(), CheckFault>
+fn test_later(
+    first: &Heading,
+    head: &Head,
+    params: &[Slot],
+    defines: bool,
+) -> Result<(), CheckFault>
     ensures { Tests (spec.later_faults (Some first.now) head.now params.now defines) result }
 {
     if !(same_result(first.result, head.result) && same_kinds(first.params.as_slice(), params)) {
@@ -148,7 +158,13 @@ fn test_later(first: &Heading, head: &Head, params: &[Slot], defines: bool) -> R
 }
 
 /// A later head of the function with this number.
-fn later_head(file: &File, number: u32, head: &Head, params: &[Slot], defines: bool) -> Result<u32, CheckFault>
+fn later_head(
+    file: &File,
+    number: u32,
+    head: &Head,
+    params: &[Slot],
+    defines: bool,
+) -> Result<u32, CheckFault>
     ensures { Gives (spec.later_head number head.now params.now defines file.now) result file.now }
 {
     if let Some(first) = file.headings.as_slice().get(number as usize) {
@@ -203,7 +219,12 @@ fn copy_slots(alloc: Global, mut slots: &[Slot]) -> Result<List<Slot>, WantOfMem
 
 /// Declares a function by its first head, and gives its number.
 #[tactic(auto, using(crate::proofs::Found::refuses_left))]
-fn first_head(alloc: Global, file: &mut File, head: &Head, params: &[Slot]) -> Result<u32, CheckFault>
+fn first_head(
+    alloc: Global,
+    file: &mut File,
+    head: &Head,
+    params: &[Slot],
+) -> Result<u32, CheckFault>
     ensures { Gives (spec.first_head head.now params.now file.old) result file.new }
 {
     let number = test_first(file, head)?;
@@ -247,7 +268,12 @@ fn head_of(
 
 /// A head, of a definition or not: the number of its function, and its parameters.
 #[tactic(auto, using(crate::proofs::Found::refuses_left))]
-pub fn head(alloc: Global, file: &mut File, head: &Head, defines: bool) -> Result<(u32, List<Slot>), CheckFault>
+pub fn head(
+    alloc: Global,
+    file: &mut File,
+    head: &Head,
+    defines: bool,
+) -> Result<(u32, List<Slot>), CheckFault>
     ensures { Gives (spec.head head.now defines file.old) result file.new }
 {
     let params = params(alloc, defines, head.params.as_slice())?;

@@ -102,7 +102,11 @@ fn make_label(before: &Labels, label: &Label) -> Result<PLabel, CheckFault>
 }
 
 /// The labels of an arm, after those of the switch before it.
-pub fn make_labels(alloc: Global, before: &mut Labels, mut list: &[Label]) -> Result<List<PLabel>, CheckFault>
+pub fn make_labels(
+    alloc: Global,
+    before: &mut Labels,
+    mut list: &[Label],
+) -> Result<List<PLabel>, CheckFault>
     ensures found { (names : Names) (s : Body) → Gives (spec.labels names before.old [] list.entry.now s) result s }
     ensures added { IfOk result (λ these. before.new ≡ before.old ++ these) }
 {

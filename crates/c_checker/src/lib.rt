@@ -25,3 +25,6 @@ pub use functions::check;
 pub use headings::{Heading, Headings};
 pub use laws::law_of_checked;
 pub use state::{Around, Body, File};
+
+#[cfg(test)]
+mod tests;

@@ -187,14 +187,7 @@ fn else_part(
     ensures { Gives (spec.else_part (option_map (stmt_of functions.now returns) inner.now) around body.old) result body.new }
 {
     match inner {
-        Some(inner) => Ok(Some(part(
-            alloc,
-            functions,
-            returns,
-            body,
-            inner.get(),
-            around,
-        )?)),
+        Some(inner) => Ok(Some(part(alloc, functions, returns, body, inner.get(), around)?)),
         None => Ok(None),
     }
 }
@@ -337,7 +330,16 @@ fn arms(
     let mut before = Labels::new(alloc);
     let mut done = List::from_vec(Vec::new(alloc));
     while let [first, rest @ ..] = arms {
-        let made = arm(alloc, functions, returns, body, first, &mut before, line, around)?;
+        let made = arm(
+            alloc,
+            functions,
+            returns,
+            body,
+            first,
+            &mut before,
+            line,
+            around,
+        )?;
         done.push(alloc, made)?;
         arms = rest;
     }
@@ -359,7 +361,15 @@ fn switch_stmt(
     ensures { Gives (spec.switch_stmt functions.now on.now (map (arm_of functions.now returns) list.now) line around body.old) result body.new }
 {
     let on = expression(alloc, functions, body, on, true)?;
-    let arms = arms(alloc, functions, returns, body, list, line, inside_switch(around))?;
+    let arms = arms(
+        alloc,
+        functions,
+        returns,
+        body,
+        list,
+        line,
+        inside_switch(around),
+    )?;
     Ok(PStmt::Switch { on, arms, line })
 }
 
@@ -398,7 +408,17 @@ pub fn stmt(
             yes,
             no,
             line,
-        } => if_stmt(alloc, functions, returns, body, test, yes.get(), no, *line, around),
+        } => if_stmt(
+            alloc,
+            functions,
+            returns,
+            body,
+            test,
+            yes.get(),
+            no,
+            *line,
+            around,
+        ),
         Stmt::While {
             test,
             body: inner,
@@ -415,12 +435,31 @@ pub fn stmt(
             third,
             body: inner,
             line,
-        } => for_stmt(alloc, functions, returns, body, first, test, third, inner.get(), *line),
+        } => for_stmt(
+            alloc,
+            functions,
+            returns,
+            body,
+            first,
+            test,
+            third,
+            inner.get(),
+            *line,
+        ),
         Stmt::Break { line } => break_stmt(around, *line),
         Stmt::Continue { line } => continue_stmt(around, *line),
         Stmt::Return { value, line } => return_stmt(alloc, functions, returns, body, value, *line),
         Stmt::Switch { on, arms, line } => {
-            switch_stmt(alloc, functions, returns, body, on, arms.as_slice(), *line, around)
+            switch_stmt(
+                alloc,
+                functions,
+                returns,
+                body,
+                on,
+                arms.as_slice(),
+                *line,
+                around,
+            )
         }
     }
 }
