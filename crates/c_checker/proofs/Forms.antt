@@ -122,7 +122,21 @@ pub part_assign : (names : Names) (op : Option BinaryOp) (place : Expr) (value :
     → part_of names (e.Assign op place value line) ≡ part_step names (Expr-F.Assign op (part_of names place) (part_of names value) line)
 part_assign names op place value line = sym (ap (part_of names) (e.rolls-Assign op place value line)) ∙ part_roll names (Expr-F.Assign op place value line)
 
-pub ruleset constant_forms = (constant_const, constant_text, constant_name, constant_at, constant_call, constant_paren, constant_unary, constant_bump, constant_binary,
-    constant_and, constant_or, constant_choose, constant_comma, constant_assign)
+pub ruleset constant_forms = (
+  constant_const,
+  constant_text,
+  constant_name,
+  constant_at,
+  constant_call,
+  constant_paren,
+  constant_unary,
+  constant_bump,
+  constant_binary,
+  constant_and,
+  constant_or,
+  constant_choose,
+  constant_comma,
+  constant_assign,
+)
 
 pub ruleset part_forms = (part_const, part_text, part_name, part_at, part_call, part_paren, part_unary, part_bump, part_binary, part_and, part_or, part_choose, part_comma, part_assign)

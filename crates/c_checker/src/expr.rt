@@ -173,7 +173,7 @@ fn both(
     right_used: bool,
 ) -> Result<(PExpr, PExpr), CheckFault>
     ensures { Gives (spec.both ((part_of (names_of scope.now.entries.now scope.now.functions.now) left.now).value left_used)
-            ((part_of (names_of scope.now.entries.now scope.now.functions.now) right.now).value right_used) texts.old) result texts.new }
+        ((part_of (names_of scope.now.entries.now scope.now.functions.now) right.now).value right_used) texts.old) result texts.new }
 {
     let left = value(alloc, scope, texts, left, left_used)?;
     let right = value(alloc, scope, texts, right, right_used)?;
@@ -192,8 +192,8 @@ fn three(
     third: &Expr,
 ) -> Result<(PExpr, PExpr, PExpr), CheckFault>
     ensures { Gives (spec.three ((part_of (names_of scope.now.entries.now scope.now.functions.now) first.now).value true)
-            ((part_of (names_of scope.now.entries.now scope.now.functions.now) second.now).value true)
-            ((part_of (names_of scope.now.entries.now scope.now.functions.now) third.now).value true) texts.old) result texts.new }
+        ((part_of (names_of scope.now.entries.now scope.now.functions.now) second.now).value true)
+        ((part_of (names_of scope.now.entries.now scope.now.functions.now) third.now).value true) texts.old) result texts.new }
 {
     let first = value(alloc, scope, texts, first, true)?;
     let second = value(alloc, scope, texts, second, true)?;
@@ -225,7 +225,7 @@ fn stored(
     stored: &Expr,
 ) -> Result<(PExpr, PExpr), CheckFault>
     ensures { Gives (spec.stored (part_of (names_of scope.now.entries.now scope.now.functions.now) place.now)
-            (part_of (names_of scope.now.entries.now scope.now.functions.now) stored.now) texts.old) result texts.new }
+        (part_of (names_of scope.now.entries.now scope.now.functions.now) stored.now) texts.old) result texts.new }
 {
     let place = target(alloc, scope, texts, place)?;
     let stored = value(alloc, scope, texts, stored, true)?;
@@ -244,7 +244,7 @@ fn unary(
     line: u32,
 ) -> Result<PExpr, CheckFault>
     ensures { Gives ((part_step (names_of scope.now.entries.now scope.now.functions.now) (Expr-F.Unary op
-            (part_of (names_of scope.now.entries.now scope.now.functions.now) part.now) line)).value true texts.old) result texts.new }
+        (part_of (names_of scope.now.entries.now scope.now.functions.now) part.now) line)).value true texts.old) result texts.new }
 {
     let part = value(alloc, scope, texts, part, true)?;
     let of = unary_type(op, type_of(&part));
@@ -265,7 +265,7 @@ fn bump(
     line: u32,
 ) -> Result<PExpr, CheckFault>
     ensures { Gives ((part_step (names_of scope.now.entries.now scope.now.functions.now) (Expr-F.Bump up before
-            (part_of (names_of scope.now.entries.now scope.now.functions.now) part.now) line)).value true texts.old) result texts.new }
+        (part_of (names_of scope.now.entries.now scope.now.functions.now) part.now) line)).value true texts.old) result texts.new }
 {
     let part = target(alloc, scope, texts, part)?;
     let of = part.of;
@@ -290,8 +290,8 @@ fn binary(
     line: u32,
 ) -> Result<PExpr, CheckFault>
     ensures { Gives ((part_step (names_of scope.now.entries.now scope.now.functions.now) (Expr-F.Binary op
-            (part_of (names_of scope.now.entries.now scope.now.functions.now) left.now) (part_of (names_of scope.now.entries.now scope.now.functions.now) right.now)
-            line)).value true texts.old) result texts.new }
+        (part_of (names_of scope.now.entries.now scope.now.functions.now) left.now) (part_of (names_of scope.now.entries.now scope.now.functions.now) right.now)
+        line)).value true texts.old) result texts.new }
 {
     let (left, right) = both(alloc, scope, texts, left, true, right, true)?;
     let of = binary_type(op, type_of(&left), type_of(&right));
@@ -312,7 +312,7 @@ fn and(
     line: u32,
 ) -> Result<PExpr, CheckFault>
     ensures { Gives ((part_step (names_of scope.now.entries.now scope.now.functions.now) (Expr-F.And (part_of (names_of scope.now.entries.now scope.now.functions.now)
-            left.now) (part_of (names_of scope.now.entries.now scope.now.functions.now) right.now) line)).value true texts.old) result texts.new }
+        left.now) (part_of (names_of scope.now.entries.now scope.now.functions.now) right.now) line)).value true texts.old) result texts.new }
 {
     let (left, right) = both(alloc, scope, texts, left, true, right, true)?;
     let left = Boxed::new(alloc, left)?;
@@ -332,7 +332,7 @@ fn or(
     line: u32,
 ) -> Result<PExpr, CheckFault>
     ensures { Gives ((part_step (names_of scope.now.entries.now scope.now.functions.now) (Expr-F.Or (part_of (names_of scope.now.entries.now scope.now.functions.now)
-            left.now) (part_of (names_of scope.now.entries.now scope.now.functions.now) right.now) line)).value true texts.old) result texts.new }
+        left.now) (part_of (names_of scope.now.entries.now scope.now.functions.now) right.now) line)).value true texts.old) result texts.new }
 {
     let (left, right) = both(alloc, scope, texts, left, true, right, true)?;
     let left = Boxed::new(alloc, left)?;
@@ -353,8 +353,8 @@ fn choose(
     line: u32,
 ) -> Result<PExpr, CheckFault>
     ensures { Gives ((part_step (names_of scope.now.entries.now scope.now.functions.now) (Expr-F.Choose
-            (part_of (names_of scope.now.entries.now scope.now.functions.now) test.now) (part_of (names_of scope.now.entries.now scope.now.functions.now) yes.now)
-            (part_of (names_of scope.now.entries.now scope.now.functions.now) no.now) line)).value true texts.old) result texts.new }
+        (part_of (names_of scope.now.entries.now scope.now.functions.now) test.now) (part_of (names_of scope.now.entries.now scope.now.functions.now) yes.now)
+        (part_of (names_of scope.now.entries.now scope.now.functions.now) no.now) line)).value true texts.old) result texts.new }
 {
     let (test, yes, no) = three(alloc, scope, texts, test, yes, no)?;
     let of = common_type(type_of(&yes), type_of(&no));
@@ -377,8 +377,8 @@ fn comma(
     used: bool,
 ) -> Result<PExpr, CheckFault>
     ensures { Gives ((part_step (names_of scope.now.entries.now scope.now.functions.now) (Expr-F.Comma
-            (part_of (names_of scope.now.entries.now scope.now.functions.now) left.now) (part_of (names_of scope.now.entries.now scope.now.functions.now) right.now)
-            line)).value used texts.old) result texts.new }
+        (part_of (names_of scope.now.entries.now scope.now.functions.now) left.now) (part_of (names_of scope.now.entries.now scope.now.functions.now) right.now)
+        line)).value used texts.old) result texts.new }
 {
     let (left, right) = both(alloc, scope, texts, left, false, right, used)?;
     let of = right.of;
@@ -404,8 +404,8 @@ fn assign(
     line: u32,
 ) -> Result<PExpr, CheckFault>
     ensures { Gives ((part_step (names_of scope.now.entries.now scope.now.functions.now) (Expr-F.Assign op
-            (part_of (names_of scope.now.entries.now scope.now.functions.now) place.now) (part_of (names_of scope.now.entries.now scope.now.functions.now) value.now)
-            line)).value true texts.old) result texts.new }
+        (part_of (names_of scope.now.entries.now scope.now.functions.now) place.now) (part_of (names_of scope.now.entries.now scope.now.functions.now) value.now)
+        line)).value true texts.old) result texts.new }
 {
     let (place, value) = stored(alloc, scope, texts, place, value)?;
     let of = place.of;
@@ -570,7 +570,7 @@ fn call_function(
     used: bool,
 ) -> Result<PExpr, CheckFault>
     ensures { Gives (spec.call_function number of (params_of scope.now.functions.now number) (map (part_of (names_of scope.now.entries.now scope.now.functions.now)) args.now)
-            line used texts.old) result texts.new }
+        line used texts.old) result texts.new }
 {
     let params = scope.params(number);
     if args.len() != params.len() {
@@ -656,7 +656,7 @@ fn print(
     line: u32,
 ) -> Result<PExpr, CheckFault>
     ensures { Gives (spec.print (part_of (names_of scope.now.entries.now scope.now.functions.now) first.now)
-            (map (part_of (names_of scope.now.entries.now scope.now.functions.now)) more.now) line texts.old) result texts.new }
+        (map (part_of (names_of scope.now.entries.now scope.now.functions.now)) more.now) line texts.old) result texts.new }
 {
     match first {
         Expr::Text { bytes, line: at } => {
@@ -694,7 +694,7 @@ fn call_thing(
     used: bool,
 ) -> Result<PExpr, CheckFault>
     ensures { Gives (spec.call_thing (names_of scope.now.entries.now scope.now.functions.now) thing (map (part_of (names_of scope.now.entries.now scope.now.functions.now))
-            args.now) line used texts.old) result texts.new }
+        args.now) line used texts.old) result texts.new }
 {
     match thing {
         Thing::Function { number, result } => {
@@ -720,7 +720,7 @@ fn call(
     used: bool,
 ) -> Result<PExpr, CheckFault>
     ensures { Gives (spec.call (names_of scope.now.entries.now scope.now.functions.now) thing (map (part_of (names_of scope.now.entries.now scope.now.functions.now))
-            args.now) line used texts.old) result texts.new }
+        args.now) line used texts.old) result texts.new }
 {
     if args.len() > MAX_ARGUMENTS {
         return Err(CheckFault::TooMany { line });

@@ -474,7 +474,7 @@ fn only(
     s: &Stmt,
 ) -> Result<List<PStmt>, CheckFault>
     ensures { Gives (spec.sequence [] (record { check = (stmt_of functions.now returns s.now).check; body = λ _. (stmt_of functions.now returns s.now).check spec.outside } ∷
-            []) spec.outside body.old) result body.new }
+        []) spec.outside body.old) result body.new }
 {
     let made = stmt(alloc, functions, returns, body, s, outside())?;
     let mut list = List::from_vec(Vec::new(alloc));
