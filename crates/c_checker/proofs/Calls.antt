@@ -17,10 +17,12 @@ use Rattle.c_checker.specs.Expressions.{Part, part_of, argument, arguments, valu
 pub bind_fine : {S A B : Type 0} (m : Check S A) (k : A → Check S B) (s t : S) (x : A) → m s ≡ fine x t → (m >>= k) s ≡ k x t
 bind_fine m k s t x h = rw h refl
 
-pub arguments_next : (x : Slot) (xs : List Slot) (before : List PExpr) (a : Part) (more : List Part) (s t : List (List ℕ)) (e : PExpr) → argument a x s ≡ fine e t → arguments (x ∷ xs) before (a ∷ more) s ≡ arguments xs (before ++ e ∷ []) more t
+pub arguments_next : (x : Slot) (xs : List Slot) (before : List PExpr) (a : Part) (more : List Part) (s t : List (List ℕ)) (e : PExpr) → argument a x s ≡ fine e t
+    → arguments (x ∷ xs) before (a ∷ more) s ≡ arguments xs (before ++ e ∷ []) more t
 arguments_next x xs before a more s t e h = rw h refl
 
-pub arguments_err : (x : Slot) (xs : List Slot) (before : List PExpr) (a : Part) (more : List Part) (s : List (List ℕ)) (f : CheckFault) → Refuses (argument a x s).faults f → Refuses (arguments (x ∷ xs) before (a ∷ more) s).faults f
+pub arguments_err : (x : Slot) (xs : List Slot) (before : List PExpr) (a : Part) (more : List Part) (s : List (List ℕ)) (f : CheckFault) → Refuses (argument a x s).faults f
+    → Refuses (arguments (x ∷ xs) before (a ∷ more) s).faults f
 arguments_err x xs before a more s f h = refuses_left _ _ f h
 
 pub values_next : (before : List PExpr) (a : Part) (more : List Part) (s t : List (List ℕ)) (e : PExpr) → a.value true s ≡ fine e t → values before (a ∷ more) s ≡ values (before ++ e ∷ []) more t
@@ -43,7 +45,8 @@ most_rest [] = omega arith
 most_rest (x ∷ xs) = omega arith
 
 -- an element that is found is a place
-pub as_place : (thing : Thing) (line : ℕ) (index : Part) (target : ℕ) (s t : List (List ℕ)) (r : Result PExpr CheckFault) → Gives (element thing line index s) r t → Gives (element_place thing line index target s) r t
+pub as_place : (thing : Thing) (line : ℕ) (index : Part) (target : ℕ) (s t : List (List ℕ)) (r : Result PExpr CheckFault) → Gives (element thing line index s) r t
+    → Gives (element_place thing line index target s) r t
 as_place thing line index target s t (Err f) h = refuses_left _ _ f h
 as_place (Array what of) line index target s t (Ok e) h = bind_fine (element (Array what of) line index) (λ x. note (unless (is_array (Array what of)) (NotAssignable target)) >> pure x) s t e h
 as_place (Scalar what of) line index target s t (Ok e) h = let no = ap (λ x. x.faults) h in absurd cc
@@ -52,9 +55,11 @@ as_place (BuiltIn b) line index target s t (Ok e) h = let no = ap (λ x. x.fault
 as_place Unknown line index target s t (Ok e) h = let no = ap (λ x. x.faults) h in absurd cc
 
 -- a value, by the form of the expression
-pub value_form : (names : Names) (e form : Expr) (p : Part) (used : Bool) (s t : List (List ℕ)) (r : Result PExpr CheckFault) → e ≡ form → part_of names form ≡ p → Gives (p.value used s) r t → Gives ((part_of names e).value used s) r t
+pub value_form : (names : Names) (e form : Expr) (p : Part) (used : Bool) (s t : List (List ℕ)) (r : Result PExpr CheckFault) → e ≡ form → part_of names form ≡ p
+    → Gives (p.value used s) r t → Gives ((part_of names e).value used s) r t
 value_form names e form p used s t r is same h = subst (λ p. Gives (p.value used s) r t) (sym (ap (part_of names) is ∙ same)) h
 
 -- the same of a place
-pub place_form : (names : Names) (e form : Expr) (p : Part) (target : ℕ) (s t : List (List ℕ)) (r : Result PExpr CheckFault) → e ≡ form → part_of names form ≡ p → Gives (p.place target s) r t → Gives ((part_of names e).place target s) r t
+pub place_form : (names : Names) (e form : Expr) (p : Part) (target : ℕ) (s t : List (List ℕ)) (r : Result PExpr CheckFault) → e ≡ form → part_of names form ≡ p
+    → Gives (p.place target s) r t → Gives ((part_of names e).place target s) r t
 place_form names e form p target s t r is same h = subst (λ p. Gives (p.place target s) r t) (sym (ap (part_of names) is ∙ same)) h

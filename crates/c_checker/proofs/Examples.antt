@@ -91,7 +91,11 @@ no_body : faults_of (proto (codes "f") (Some Int) (int_param ∷ []) ∷ main (r
 unfolding part_of constant_of stmt_of arm_of hidden shape-the_row-Expr-0 hidden-the_row-Expr-0 shape-the_row-Expr-1 hidden-the_row-Expr-1 shape-the_row-Stmt-0 hidden-the_row-Stmt-0 shape-the_row-Stmt-1 hidden-the_row-Stmt-1 shape-the_row-Arm-2 hidden-the_row-Arm-2
 no_body = refl
 
-double_case : body_faults (s.Switch (num 1) (record { labels = record { value = Some (num 1); line = 2 } ∷ record { value = Some (num 1); line = 3 } ∷ record { value = None; line = 4 } ∷ record { value = None; line = 5 } ∷ []; list = s.Empty 2 ∷ [] } ∷ []) 2 ∷ []) ≡ f.DoubleCase 3 ∷ f.DoubleDefault 5 ∷ []
+double_case : body_faults (s.Switch (num 1) (record {
+  labels = record { value = Some (num 1); line = 2 } ∷ record { value = Some (num 1); line = 3 } ∷ record
+      { value = None; line = 4 } ∷ record { value = None; line = 5 } ∷ [];
+  list = s.Empty 2 ∷ [];
+} ∷ []) 2 ∷ []) ≡ f.DoubleCase 3 ∷ f.DoubleDefault 5 ∷ []
 unfolding part_of constant_of stmt_of arm_of hidden shape-the_row-Expr-0 hidden-the_row-Expr-0 shape-the_row-Expr-1 hidden-the_row-Expr-1 shape-the_row-Stmt-0 hidden-the_row-Stmt-0 shape-the_row-Stmt-1 hidden-the_row-Stmt-1 shape-the_row-Arm-2 hidden-the_row-Arm-2
 double_case = refl
 

@@ -66,13 +66,15 @@ constant_and left right line = sym (ap (constant_of) (e.rolls-And left right lin
 pub constant_or : (left : Expr) (right : Expr) (line : ℕ) → constant_of (e.Or left right line) ≡ constant_step (Expr-F.Or (constant_of left) (constant_of right) line)
 constant_or left right line = sym (ap (constant_of) (e.rolls-Or left right line)) ∙ constant_roll (Expr-F.Or left right line)
 
-pub constant_choose : (test : Expr) (first : Expr) (second : Expr) (line : ℕ) → constant_of (e.Choose test first second line) ≡ constant_step (Expr-F.Choose (constant_of test) (constant_of first) (constant_of second) line)
+pub constant_choose : (test : Expr) (first : Expr) (second : Expr) (line : ℕ)
+    → constant_of (e.Choose test first second line) ≡ constant_step (Expr-F.Choose (constant_of test) (constant_of first) (constant_of second) line)
 constant_choose test first second line = sym (ap (constant_of) (e.rolls-Choose test first second line)) ∙ constant_roll (Expr-F.Choose test first second line)
 
 pub constant_comma : (left : Expr) (right : Expr) (line : ℕ) → constant_of (e.Comma left right line) ≡ constant_step (Expr-F.Comma (constant_of left) (constant_of right) line)
 constant_comma left right line = sym (ap (constant_of) (e.rolls-Comma left right line)) ∙ constant_roll (Expr-F.Comma left right line)
 
-pub constant_assign : (op : Option BinaryOp) (place : Expr) (value : Expr) (line : ℕ) → constant_of (e.Assign op place value line) ≡ constant_step (Expr-F.Assign op (constant_of place) (constant_of value) line)
+pub constant_assign : (op : Option BinaryOp) (place : Expr) (value : Expr) (line : ℕ)
+    → constant_of (e.Assign op place value line) ≡ constant_step (Expr-F.Assign op (constant_of place) (constant_of value) line)
 constant_assign op place value line = sym (ap (constant_of) (e.rolls-Assign op place value line)) ∙ constant_roll (Expr-F.Assign op place value line)
 
 pub part_const : (names : Names) (bits : ℕ) (of : Ctype) (line : ℕ) → part_of names (e.Const bits of line) ≡ part_step names (Expr-F.Const bits of line)
@@ -99,7 +101,8 @@ part_unary names op part line = sym (ap (part_of names) (e.rolls-Unary op part l
 pub part_bump : (names : Names) (up : Bool) (before : Bool) (part : Expr) (line : ℕ) → part_of names (e.Bump up before part line) ≡ part_step names (Expr-F.Bump up before (part_of names part) line)
 part_bump names up before part line = sym (ap (part_of names) (e.rolls-Bump up before part line)) ∙ part_roll names (Expr-F.Bump up before part line)
 
-pub part_binary : (names : Names) (op : BinaryOp) (left : Expr) (right : Expr) (line : ℕ) → part_of names (e.Binary op left right line) ≡ part_step names (Expr-F.Binary op (part_of names left) (part_of names right) line)
+pub part_binary : (names : Names) (op : BinaryOp) (left : Expr) (right : Expr) (line : ℕ)
+    → part_of names (e.Binary op left right line) ≡ part_step names (Expr-F.Binary op (part_of names left) (part_of names right) line)
 part_binary names op left right line = sym (ap (part_of names) (e.rolls-Binary op left right line)) ∙ part_roll names (Expr-F.Binary op left right line)
 
 pub part_and : (names : Names) (left : Expr) (right : Expr) (line : ℕ) → part_of names (e.And left right line) ≡ part_step names (Expr-F.And (part_of names left) (part_of names right) line)
@@ -108,11 +111,32 @@ part_and names left right line = sym (ap (part_of names) (e.rolls-And left right
 pub part_or : (names : Names) (left : Expr) (right : Expr) (line : ℕ) → part_of names (e.Or left right line) ≡ part_step names (Expr-F.Or (part_of names left) (part_of names right) line)
 part_or names left right line = sym (ap (part_of names) (e.rolls-Or left right line)) ∙ part_roll names (Expr-F.Or left right line)
 
-pub part_choose : (names : Names) (test : Expr) (first : Expr) (second : Expr) (line : ℕ) → part_of names (e.Choose test first second line) ≡ part_step names (Expr-F.Choose (part_of names test) (part_of names first) (part_of names second) line)
+pub part_choose : (names : Names) (test : Expr) (first : Expr) (second : Expr) (line : ℕ)
+    → part_of names (e.Choose test first second line) ≡ part_step names (Expr-F.Choose (part_of names test) (part_of names first) (part_of names second) line)
 part_choose names test first second line = sym (ap (part_of names) (e.rolls-Choose test first second line)) ∙ part_roll names (Expr-F.Choose test first second line)
 
 pub part_comma : (names : Names) (left : Expr) (right : Expr) (line : ℕ) → part_of names (e.Comma left right line) ≡ part_step names (Expr-F.Comma (part_of names left) (part_of names right) line)
 part_comma names left right line = sym (ap (part_of names) (e.rolls-Comma left right line)) ∙ part_roll names (Expr-F.Comma left right line)
 
-pub part_assign : (names : Names) (op : Option BinaryOp) (place : Expr) (value : Expr) (line : ℕ) → part_of names (e.Assign op place value line) ≡ part_step names (Expr-F.Assign op (part_of names place) (part_of names value) line)
+pub part_assign : (names : Names) (op : Option BinaryOp) (place : Expr) (value : Expr) (line : ℕ)
+    → part_of names (e.Assign op place value line) ≡ part_step names (Expr-F.Assign op (part_of names place) (part_of names value) line)
 part_assign names op place value line = sym (ap (part_of names) (e.rolls-Assign op place value line)) ∙ part_roll names (Expr-F.Assign op place value line)
+
+pub ruleset constant_forms = (
+  constant_const,
+  constant_text,
+  constant_name,
+  constant_at,
+  constant_call,
+  constant_paren,
+  constant_unary,
+  constant_bump,
+  constant_binary,
+  constant_and,
+  constant_or,
+  constant_choose,
+  constant_comma,
+  constant_assign,
+)
+
+pub ruleset part_forms = (part_const, part_text, part_name, part_at, part_call, part_paren, part_unary, part_bump, part_binary, part_and, part_or, part_choose, part_comma, part_assign)

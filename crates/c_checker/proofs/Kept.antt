@@ -26,8 +26,10 @@ use Rattle.c_tree.specs.declared.program.Function.{Function}
 use Rattle.c_checker.specs.Found.{Found, fine, pure, note, lift, ◌>>=◌, ◌>>◌}
 use Rattle.c_checker.specs.Scope.{Names}
 use Rattle.c_checker.specs.Statements.{Writes, get, put, visible, value, optional, local_faults, size, new_local, add_local, declare, declares, locals, begin_block, end_block, slots, entry_of}
-use Rattle.c_checker.specs.Statements.{case_label, new_label, label_faults, label, constant_pattern, labels, outside, inside_loop, inside_switch, StmtPart, ArmPart, sequence, else_part, return_faults, arms}
-use Rattle.c_checker.specs.Statements.{block_from, block, run, if_stmt, while_stmt, do_stmt, controls, for_stmt, break_stmt, continue_stmt, return_stmt, switch_stmt, arm, alone, plain, stmt_step, arm_step, stmt_of, arm_of}
+use Rattle.c_checker.specs.Statements.{case_label, new_label, label_faults, label, constant_pattern, labels, outside, inside_loop, inside_switch, StmtPart, ArmPart, sequence}
+use Rattle.c_checker.specs.Statements.{else_part, return_faults, arms}
+use Rattle.c_checker.specs.Statements.{block_from, block, run, if_stmt, while_stmt, do_stmt, controls, for_stmt, break_stmt, continue_stmt, return_stmt, switch_stmt, arm}
+use Rattle.c_checker.specs.Statements.{alone, plain, stmt_step, arm_step, stmt_of, arm_of}
 use Rattle.c_tree.specs.declared.program.Slot.{Slot}
 use Rattle.c_tree.specs.declared.tree.Head.{Head}
 use Rattle.c_checker.specs.declared.state.File.{File}
@@ -127,7 +129,8 @@ module _ (functions : List Heading) where
   kept_block : (vs : List Vars) (xs : List StmtPart) (line : ℕ) (around : Around) → AllKept xs → Kept (block functions vs xs line around)
   kept_block vs xs line around h = record { front = λ s. (kept_same (same_block (length s.entries) vs xs line around h)).front s }
 
-  kept_if : (test : Expr) (first : StmtPart) (second : Option StmtPart) (line : ℕ) (around : Around) → KeptPart first → Kept (else_part second around) → Kept (if_stmt functions test first second line around)
+  kept_if : (test : Expr) (first : StmtPart) (second : Option StmtPart) (line : ℕ) (around : Around) → KeptPart first → Kept (else_part second around)
+      → Kept (if_stmt functions test first second line around)
   kept_if test first second line around a b =
       kept_bind {f = λ x. first.check around >>= (λ y. else_part second around >>= (λ z. pure (p.If x y z line)))} (kept_value true test) (λ x.
       kept_bind {f = λ y. else_part second around >>= (λ z. pure (p.If x y z line))} (a around) (λ y. kept_map (λ z. p.If x y z line) b))

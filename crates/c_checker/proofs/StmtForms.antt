@@ -20,7 +20,8 @@ use Rattle.c_checker.specs.Found.{Gives}
 use Rattle.c_checker.specs.Statements.{Writes, StmtPart, ArmPart, alone, plain, stmt_step, arm_step, stmt_of, arm_of}
 
 module _ (functions : List Heading) (result : Option Ctype) where
-  pub stmt_roll : (x : Stmt-F Stmt Arm) → stmt_of functions result (roll-Stmt x) ≡ stmt_step functions result (map-Stmt Stmt Arm StmtPart ArmPart (stmt_of functions result) (arm_of functions result) x)
+  pub stmt_roll : (x : Stmt-F Stmt Arm)
+      → stmt_of functions result (roll-Stmt x) ≡ stmt_step functions result (map-Stmt Stmt Arm StmtPart ArmPart (stmt_of functions result) (arm_of functions result) x)
   unfolding stmt_of arm_of out-Stmt roll-Stmt out
   stmt_roll x =
       let A = family StmtPart ArmPart in
@@ -38,7 +39,8 @@ module _ (functions : List Heading) (result : Option Ctype) where
       ∙ ap (λ l. arm_step functions result ((body-Arm).map the_family A (the_fold A S) l)) (out-roll-Arm x)
       ∙ ap (arm_step functions result) (map_is-Arm the_family A (the_fold A S) x)
 
-  pub stmt_block : (vars : List Vars) (list : List Stmt) (line : ℕ) → stmt_of functions result (s.Block vars list line) ≡ stmt_step functions result (Stmt-F.Block vars (map (stmt_of functions result) list) line)
+  pub stmt_block : (vars : List Vars) (list : List Stmt) (line : ℕ)
+      → stmt_of functions result (s.Block vars list line) ≡ stmt_step functions result (Stmt-F.Block vars (map (stmt_of functions result) list) line)
   stmt_block vars list line = sym (ap (stmt_of functions result) (s.rolls-Block vars list line)) ∙ stmt_roll (Stmt-F.Block vars list line)
 
   pub stmt_empty : (line : ℕ) → stmt_of functions result (s.Empty line) ≡ stmt_step functions result (Stmt-F.Empty line)
@@ -57,7 +59,8 @@ module _ (functions : List Heading) (result : Option Ctype) where
   pub stmt_do : (body : Stmt) (test : Expr) (line : ℕ) → stmt_of functions result (s.Do body test line) ≡ stmt_step functions result (Stmt-F.Do (stmt_of functions result body) test line)
   stmt_do body test line = sym (ap (stmt_of functions result) (s.rolls-Do body test line)) ∙ stmt_roll (Stmt-F.Do body test line)
 
-  pub stmt_for : (first : Option Expr) (test : Option Expr) (third : Option Expr) (body : Stmt) (line : ℕ) → stmt_of functions result (s.For first test third body line) ≡ stmt_step functions result (Stmt-F.For first test third (stmt_of functions result body) line)
+  pub stmt_for : (first : Option Expr) (test : Option Expr) (third : Option Expr) (body : Stmt) (line : ℕ)
+      → stmt_of functions result (s.For first test third body line) ≡ stmt_step functions result (Stmt-F.For first test third (stmt_of functions result body) line)
   stmt_for first test third body line = sym (ap (stmt_of functions result) (s.rolls-For first test third body line)) ∙ stmt_roll (Stmt-F.For first test third body line)
 
   pub stmt_break : (line : ℕ) → stmt_of functions result (s.Break line) ≡ stmt_step functions result (Stmt-F.Break line)
@@ -69,7 +72,8 @@ module _ (functions : List Heading) (result : Option Ctype) where
   pub stmt_return : (value : Option Expr) (line : ℕ) → stmt_of functions result (s.Return value line) ≡ stmt_step functions result (Stmt-F.Return value line)
   stmt_return value line = sym (ap (stmt_of functions result) (s.rolls-Return value line)) ∙ stmt_roll (Stmt-F.Return value line)
 
-  pub stmt_switch : (on : Expr) (arms : List Arm) (line : ℕ) → stmt_of functions result (s.Switch on arms line) ≡ stmt_step functions result (Stmt-F.Switch on (map (arm_of functions result) arms) line)
+  pub stmt_switch : (on : Expr) (arms : List Arm) (line : ℕ)
+      → stmt_of functions result (s.Switch on arms line) ≡ stmt_step functions result (Stmt-F.Switch on (map (arm_of functions result) arms) line)
   stmt_switch on arms line = sym (ap (stmt_of functions result) (s.rolls-Switch on arms line)) ∙ stmt_roll (Stmt-F.Switch on arms line)
 
   pub arm_form : (x : Arm) → arm_of functions result x ≡ arm_step functions result (record { labels = x.labels; list = map (stmt_of functions result) x.list })
@@ -77,11 +81,13 @@ module _ (functions : List Heading) (result : Option Ctype) where
   arm_form x = arm_roll (record { labels = x.labels; list = x.list })
 
 -- what a statement stands for, by its form
-pub check_form : (functions : List Heading) (result : Option Ctype) (x form : Stmt) (p : StmtPart) (around : Around) (s t : Body) (r : Result PStmt CheckFault) → x ≡ form → stmt_of functions result form ≡ p → Gives (p.check around s) r t → Gives ((stmt_of functions result x).check around s) r t
+pub check_form : (functions : List Heading) (result : Option Ctype) (x form : Stmt) (p : StmtPart) (around : Around) (s t : Body) (r : Result PStmt CheckFault) → x ≡ form
+    → stmt_of functions result form ≡ p → Gives (p.check around s) r t → Gives ((stmt_of functions result x).check around s) r t
 check_form functions result x form p around s t r is same h = subst (λ (p : StmtPart). Gives (p.check around s) r t) (sym (ap (stmt_of functions result) is ∙ same)) h
 
 -- the same of a function's body
-pub body_form : (functions : List Heading) (result : Option Ctype) (x form : Stmt) (p : StmtPart) (from : ℕ) (s t : Body) (r : Result PStmt CheckFault) → x ≡ form → stmt_of functions result form ≡ p → Gives (p.body from s) r t → Gives ((stmt_of functions result x).body from s) r t
+pub body_form : (functions : List Heading) (result : Option Ctype) (x form : Stmt) (p : StmtPart) (from : ℕ) (s t : Body) (r : Result PStmt CheckFault) → x ≡ form
+    → stmt_of functions result form ≡ p → Gives (p.body from s) r t → Gives ((stmt_of functions result x).body from s) r t
 body_form functions result x form p from s t r is same h = subst (λ (p : StmtPart). Gives (p.body from s) r t) (sym (ap (stmt_of functions result) is ∙ same)) h
 
 -- a statement that isn't a block

@@ -46,7 +46,8 @@ module _ (names : Names) where
   rolled_place : (x : Expr-F Expr) → IsNoPlace (roll-Expr x) → RefusesPlace (part_of names (roll-Expr x))
   rolled_place x h = subst RefusesPlace (sym (part_roll names x)) (level_place x h)
 
-  pub refuses_place : (e : Expr) → ((n : List ℕ) (l : ℕ) → e ≡ Name n l → ⊥) → ((n : List ℕ) (i : Expr) (l : ℕ) → e ≡ At n i l → ⊥) → ((p : Expr) (l : ℕ) → e ≡ Paren p l → ⊥) → RefusesPlace (part_of names e)
+  pub refuses_place : (e : Expr) → ((n : List ℕ) (l : ℕ) → e ≡ Name n l → ⊥) → ((n : List ℕ) (i : Expr) (l : ℕ) → e ≡ At n i l → ⊥) → ((p : Expr) (l : ℕ) → e ≡ Paren p l → ⊥)
+      → RefusesPlace (part_of names e)
   refuses_place e a b c =
       subst (λ e. IsNoPlace e → RefusesPlace (part_of names e)) (roll-out-Expr e) (rolled_place (out-Expr e)) (record { no_name = a; no_element = b; no_parentheses = c })
 

@@ -16,7 +16,7 @@ pub struct Constant {
 }
 
 /// The constant that an expression stands for, or `None` where it is not made of constants.
-#[tactic(auto, using(crate::proofs::Forms::constant_const, crate::proofs::Forms::constant_unary, crate::proofs::Forms::constant_paren, crate::proofs::Forms::constant_binary, crate::proofs::Forms::constant_and, crate::proofs::Forms::constant_or, crate::proofs::Forms::constant_choose, crate::proofs::Forms::constant_text, crate::proofs::Forms::constant_name, crate::proofs::Forms::constant_at, crate::proofs::Forms::constant_call, crate::proofs::Forms::constant_bump, crate::proofs::Forms::constant_comma, crate::proofs::Forms::constant_assign))]
+#[tactic(auto, using(crate::proofs::Forms::constant_forms))]
 pub fn evaluate(e: &Expr) -> Option<Constant>
     ensures { result ≡ constant_of e.now }
 {

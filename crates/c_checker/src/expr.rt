@@ -21,7 +21,7 @@ use std::alloc::{AllocError, Global};
 const MAX_ARGUMENTS: usize = 31;
 
 /// The line of an expression's first token.
-#[tactic(auto, using(crate::proofs::Forms::part_const, crate::proofs::Forms::part_text, crate::proofs::Forms::part_name, crate::proofs::Forms::part_at, crate::proofs::Forms::part_call, crate::proofs::Forms::part_paren, crate::proofs::Forms::part_unary, crate::proofs::Forms::part_bump, crate::proofs::Forms::part_binary, crate::proofs::Forms::part_and, crate::proofs::Forms::part_or, crate::proofs::Forms::part_choose, crate::proofs::Forms::part_comma, crate::proofs::Forms::part_assign))]
+#[tactic(auto, using(crate::proofs::Forms::part_forms))]
 pub fn line_of(e: &Expr) -> u32
     ensures any { (names : Names) → result ≡ (part_of names e.now).line }
     ensures first { result ≡ spec.first_line e.now }
@@ -172,7 +172,8 @@ fn both(
     right: &Expr,
     right_used: bool,
 ) -> Result<(PExpr, PExpr), CheckFault>
-    ensures { Gives (spec.both ((part_of (names_of scope.now.entries.now scope.now.functions.now) left.now).value left_used) ((part_of (names_of scope.now.entries.now scope.now.functions.now) right.now).value right_used) texts.old) result texts.new }
+    ensures { Gives (spec.both ((part_of (names_of scope.now.entries.now scope.now.functions.now) left.now).value left_used)
+        ((part_of (names_of scope.now.entries.now scope.now.functions.now) right.now).value right_used) texts.old) result texts.new }
 {
     let left = value(alloc, scope, texts, left, left_used)?;
     let right = value(alloc, scope, texts, right, right_used)?;
@@ -190,7 +191,9 @@ fn three(
     second: &Expr,
     third: &Expr,
 ) -> Result<(PExpr, PExpr, PExpr), CheckFault>
-    ensures { Gives (spec.three ((part_of (names_of scope.now.entries.now scope.now.functions.now) first.now).value true) ((part_of (names_of scope.now.entries.now scope.now.functions.now) second.now).value true) ((part_of (names_of scope.now.entries.now scope.now.functions.now) third.now).value true) texts.old) result texts.new }
+    ensures { Gives (spec.three ((part_of (names_of scope.now.entries.now scope.now.functions.now) first.now).value true)
+        ((part_of (names_of scope.now.entries.now scope.now.functions.now) second.now).value true)
+        ((part_of (names_of scope.now.entries.now scope.now.functions.now) third.now).value true) texts.old) result texts.new }
 {
     let first = value(alloc, scope, texts, first, true)?;
     let second = value(alloc, scope, texts, second, true)?;
@@ -221,7 +224,8 @@ fn stored(
     place: &Expr,
     stored: &Expr,
 ) -> Result<(PExpr, PExpr), CheckFault>
-    ensures { Gives (spec.stored (part_of (names_of scope.now.entries.now scope.now.functions.now) place.now) (part_of (names_of scope.now.entries.now scope.now.functions.now) stored.now) texts.old) result texts.new }
+    ensures { Gives (spec.stored (part_of (names_of scope.now.entries.now scope.now.functions.now) place.now)
+        (part_of (names_of scope.now.entries.now scope.now.functions.now) stored.now) texts.old) result texts.new }
 {
     let place = target(alloc, scope, texts, place)?;
     let stored = value(alloc, scope, texts, stored, true)?;
@@ -239,7 +243,8 @@ fn unary(
     part: &Expr,
     line: u32,
 ) -> Result<PExpr, CheckFault>
-    ensures { Gives ((part_step (names_of scope.now.entries.now scope.now.functions.now) (Expr-F.Unary op (part_of (names_of scope.now.entries.now scope.now.functions.now) part.now) line)).value true texts.old) result texts.new }
+    ensures { Gives ((part_step (names_of scope.now.entries.now scope.now.functions.now) (Expr-F.Unary op
+        (part_of (names_of scope.now.entries.now scope.now.functions.now) part.now) line)).value true texts.old) result texts.new }
 {
     let part = value(alloc, scope, texts, part, true)?;
     let of = unary_type(op, type_of(&part));
@@ -259,7 +264,8 @@ fn bump(
     part: &Expr,
     line: u32,
 ) -> Result<PExpr, CheckFault>
-    ensures { Gives ((part_step (names_of scope.now.entries.now scope.now.functions.now) (Expr-F.Bump up before (part_of (names_of scope.now.entries.now scope.now.functions.now) part.now) line)).value true texts.old) result texts.new }
+    ensures { Gives ((part_step (names_of scope.now.entries.now scope.now.functions.now) (Expr-F.Bump up before
+        (part_of (names_of scope.now.entries.now scope.now.functions.now) part.now) line)).value true texts.old) result texts.new }
 {
     let part = target(alloc, scope, texts, part)?;
     let of = part.of;
@@ -283,7 +289,9 @@ fn binary(
     right: &Expr,
     line: u32,
 ) -> Result<PExpr, CheckFault>
-    ensures { Gives ((part_step (names_of scope.now.entries.now scope.now.functions.now) (Expr-F.Binary op (part_of (names_of scope.now.entries.now scope.now.functions.now) left.now) (part_of (names_of scope.now.entries.now scope.now.functions.now) right.now) line)).value true texts.old) result texts.new }
+    ensures { Gives ((part_step (names_of scope.now.entries.now scope.now.functions.now) (Expr-F.Binary op
+        (part_of (names_of scope.now.entries.now scope.now.functions.now) left.now) (part_of (names_of scope.now.entries.now scope.now.functions.now) right.now)
+        line)).value true texts.old) result texts.new }
 {
     let (left, right) = both(alloc, scope, texts, left, true, right, true)?;
     let of = binary_type(op, type_of(&left), type_of(&right));
@@ -303,7 +311,8 @@ fn and(
     right: &Expr,
     line: u32,
 ) -> Result<PExpr, CheckFault>
-    ensures { Gives ((part_step (names_of scope.now.entries.now scope.now.functions.now) (Expr-F.And (part_of (names_of scope.now.entries.now scope.now.functions.now) left.now) (part_of (names_of scope.now.entries.now scope.now.functions.now) right.now) line)).value true texts.old) result texts.new }
+    ensures { Gives ((part_step (names_of scope.now.entries.now scope.now.functions.now) (Expr-F.And (part_of (names_of scope.now.entries.now scope.now.functions.now)
+        left.now) (part_of (names_of scope.now.entries.now scope.now.functions.now) right.now) line)).value true texts.old) result texts.new }
 {
     let (left, right) = both(alloc, scope, texts, left, true, right, true)?;
     let left = Boxed::new(alloc, left)?;
@@ -322,7 +331,8 @@ fn or(
     right: &Expr,
     line: u32,
 ) -> Result<PExpr, CheckFault>
-    ensures { Gives ((part_step (names_of scope.now.entries.now scope.now.functions.now) (Expr-F.Or (part_of (names_of scope.now.entries.now scope.now.functions.now) left.now) (part_of (names_of scope.now.entries.now scope.now.functions.now) right.now) line)).value true texts.old) result texts.new }
+    ensures { Gives ((part_step (names_of scope.now.entries.now scope.now.functions.now) (Expr-F.Or (part_of (names_of scope.now.entries.now scope.now.functions.now)
+        left.now) (part_of (names_of scope.now.entries.now scope.now.functions.now) right.now) line)).value true texts.old) result texts.new }
 {
     let (left, right) = both(alloc, scope, texts, left, true, right, true)?;
     let left = Boxed::new(alloc, left)?;
@@ -342,7 +352,9 @@ fn choose(
     no: &Expr,
     line: u32,
 ) -> Result<PExpr, CheckFault>
-    ensures { Gives ((part_step (names_of scope.now.entries.now scope.now.functions.now) (Expr-F.Choose (part_of (names_of scope.now.entries.now scope.now.functions.now) test.now) (part_of (names_of scope.now.entries.now scope.now.functions.now) yes.now) (part_of (names_of scope.now.entries.now scope.now.functions.now) no.now) line)).value true texts.old) result texts.new }
+    ensures { Gives ((part_step (names_of scope.now.entries.now scope.now.functions.now) (Expr-F.Choose
+        (part_of (names_of scope.now.entries.now scope.now.functions.now) test.now) (part_of (names_of scope.now.entries.now scope.now.functions.now) yes.now)
+        (part_of (names_of scope.now.entries.now scope.now.functions.now) no.now) line)).value true texts.old) result texts.new }
 {
     let (test, yes, no) = three(alloc, scope, texts, test, yes, no)?;
     let of = common_type(type_of(&yes), type_of(&no));
@@ -364,7 +376,9 @@ fn comma(
     line: u32,
     used: bool,
 ) -> Result<PExpr, CheckFault>
-    ensures { Gives ((part_step (names_of scope.now.entries.now scope.now.functions.now) (Expr-F.Comma (part_of (names_of scope.now.entries.now scope.now.functions.now) left.now) (part_of (names_of scope.now.entries.now scope.now.functions.now) right.now) line)).value used texts.old) result texts.new }
+    ensures { Gives ((part_step (names_of scope.now.entries.now scope.now.functions.now) (Expr-F.Comma
+        (part_of (names_of scope.now.entries.now scope.now.functions.now) left.now) (part_of (names_of scope.now.entries.now scope.now.functions.now) right.now)
+        line)).value used texts.old) result texts.new }
 {
     let (left, right) = both(alloc, scope, texts, left, false, right, used)?;
     let of = right.of;
@@ -389,7 +403,9 @@ fn assign(
     value: &Expr,
     line: u32,
 ) -> Result<PExpr, CheckFault>
-    ensures { Gives ((part_step (names_of scope.now.entries.now scope.now.functions.now) (Expr-F.Assign op (part_of (names_of scope.now.entries.now scope.now.functions.now) place.now) (part_of (names_of scope.now.entries.now scope.now.functions.now) value.now) line)).value true texts.old) result texts.new }
+    ensures { Gives ((part_step (names_of scope.now.entries.now scope.now.functions.now) (Expr-F.Assign op
+        (part_of (names_of scope.now.entries.now scope.now.functions.now) place.now) (part_of (names_of scope.now.entries.now scope.now.functions.now) value.now)
+        line)).value true texts.old) result texts.new }
 {
     let (place, value) = stored(alloc, scope, texts, place, value)?;
     let of = place.of;
@@ -553,7 +569,8 @@ fn call_function(
     line: u32,
     used: bool,
 ) -> Result<PExpr, CheckFault>
-    ensures { Gives (spec.call_function number of (params_of scope.now.functions.now number) (map (part_of (names_of scope.now.entries.now scope.now.functions.now)) args.now) line used texts.old) result texts.new }
+    ensures { Gives (spec.call_function number of (params_of scope.now.functions.now number) (map (part_of (names_of scope.now.entries.now scope.now.functions.now)) args.now)
+        line used texts.old) result texts.new }
 {
     let params = scope.params(number);
     if args.len() != params.len() {
@@ -638,7 +655,8 @@ fn print(
     more: &[Expr],
     line: u32,
 ) -> Result<PExpr, CheckFault>
-    ensures { Gives (spec.print (part_of (names_of scope.now.entries.now scope.now.functions.now) first.now) (map (part_of (names_of scope.now.entries.now scope.now.functions.now)) more.now) line texts.old) result texts.new }
+    ensures { Gives (spec.print (part_of (names_of scope.now.entries.now scope.now.functions.now) first.now)
+        (map (part_of (names_of scope.now.entries.now scope.now.functions.now)) more.now) line texts.old) result texts.new }
 {
     match first {
         Expr::Text { bytes, line: at } => {
@@ -675,7 +693,8 @@ fn call_thing(
     line: u32,
     used: bool,
 ) -> Result<PExpr, CheckFault>
-    ensures { Gives (spec.call_thing (names_of scope.now.entries.now scope.now.functions.now) thing (map (part_of (names_of scope.now.entries.now scope.now.functions.now)) args.now) line used texts.old) result texts.new }
+    ensures { Gives (spec.call_thing (names_of scope.now.entries.now scope.now.functions.now) thing (map (part_of (names_of scope.now.entries.now scope.now.functions.now))
+        args.now) line used texts.old) result texts.new }
 {
     match thing {
         Thing::Function { number, result } => {
@@ -700,7 +719,8 @@ fn call(
     line: u32,
     used: bool,
 ) -> Result<PExpr, CheckFault>
-    ensures { Gives (spec.call (names_of scope.now.entries.now scope.now.functions.now) thing (map (part_of (names_of scope.now.entries.now scope.now.functions.now)) args.now) line used texts.old) result texts.new }
+    ensures { Gives (spec.call (names_of scope.now.entries.now scope.now.functions.now) thing (map (part_of (names_of scope.now.entries.now scope.now.functions.now))
+        args.now) line used texts.old) result texts.new }
 {
     if args.len() > MAX_ARGUMENTS {
         return Err(CheckFault::TooMany { line });

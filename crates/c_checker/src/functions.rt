@@ -199,7 +199,8 @@ fn main_number(file: &File) -> Result<u32, CheckFault>
     }
 }
 
-/// Turns a tree into the program that it stands for. Where it breaks rules, one of them is named with its line.
+/// Turns a tree into the program that it stands for, if it breaks no rule. Then each name is replaced by the number of what it denotes, each expression has its type, and parentheses are gone.
+/// Otherwise one of the rules that it breaks is named with its line, or memory was refused.
 pub fn check(alloc: Global, tree: &Tree) -> Result<Program, CheckFault>
     ensures yes { IfOk result (λ p. Checked tree.now p) }
     ensures no { IfErr result (λ f. Refuses (checks tree.now).faults f) }

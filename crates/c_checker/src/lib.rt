@@ -1,4 +1,7 @@
 //! Turns a syntax tree into a checked program, or names a rule that it breaks.
+//!
+//! The definition stands in `specs/`. A part of a tree has what it stands for, the state after it, and the list of each rule that it breaks (`Found`); it goes on after a broken rule with something
+//! in its place, so that the list has the rules of all its parts. `checks` of `Units` puts them together: the list of a whole tree is empty exactly where it stands for a program, which is one.
 #![tactic(auto)]
 
 mod body;

@@ -473,7 +473,8 @@ fn only(
     body: &mut Body,
     s: &Stmt,
 ) -> Result<List<PStmt>, CheckFault>
-    ensures { Gives (spec.sequence [] (record { check = (stmt_of functions.now returns s.now).check; body = λ _. (stmt_of functions.now returns s.now).check spec.outside } ∷ []) spec.outside body.old) result body.new }
+    ensures { Gives (spec.sequence [] (record { check = (stmt_of functions.now returns s.now).check; body = λ _. (stmt_of functions.now returns s.now).check spec.outside } ∷
+        []) spec.outside body.old) result body.new }
 {
     let made = stmt(alloc, functions, returns, body, s, outside())?;
     let mut list = List::from_vec(Vec::new(alloc));

@@ -5,7 +5,7 @@ use sqlite_items::Boxed;
 use std::alloc::{AllocError, Global};
 use std::test::Fail;
 
-// Parts of trees, by short names.
+// Parts of trees, by short names. What can fail comes before a part is made.
 
 fn bytes(alloc: Global, text: &[u8]) -> Result<Bytes, AllocError> {
     Ok(Bytes::from_vec(Vec::from_slice(alloc, text)?))
@@ -30,58 +30,68 @@ fn number(bits: u32) -> Expr {
 }
 
 fn name(alloc: Global, text: &[u8]) -> Result<Expr, AllocError> {
-    Ok(Expr::Name {
-        name: bytes(alloc, text)?,
-        line: 1,
-    })
+    let name = bytes(alloc, text)?;
+    Ok(Expr::Name { name, line: 1 })
 }
 
 fn call(alloc: Global, text: &[u8], args: List<Expr>) -> Result<Expr, AllocError> {
+    let name = bytes(alloc, text)?;
     Ok(Expr::Call {
-        name: bytes(alloc, text)?,
+        name,
         args,
         line: 1,
     })
 }
 
-fn difference(alloc: Global, left: Expr, right: Expr) -> Result<Expr, AllocError> {
+fn difference(alloc: Global, left: u32, right: u32) -> Result<Expr, AllocError> {
+    let left = Boxed::new(alloc, number(left))?;
+    let right = Boxed::new(alloc, number(right))?;
     Ok(Expr::Binary {
         op: BinaryOp::Sub,
-        left: Boxed::new(alloc, left)?,
-        right: Boxed::new(alloc, right)?,
+        left,
+        right,
         line: 1,
     })
 }
 
-fn returns(value: Expr) -> Stmt {
-    Stmt::Return {
-        value: Some(value),
-        line: 1,
-    }
+/// `return value;` alone.
+fn returned(alloc: Global, value: Expr) -> Result<List<Stmt>, AllocError> {
+    list(
+        alloc,
+        Stmt::Return {
+            value: Some(value),
+            line: 1,
+        },
+    )
 }
 
 fn array(alloc: Global, text: &[u8], size: u32) -> Result<Vars, AllocError> {
+    let name = bytes(alloc, text)?;
     let declr = Declr {
-        name: bytes(alloc, text)?,
+        name,
         size: Some(number(size)),
         start: None,
         line: 1,
     };
+    let declrs = list(alloc, declr)?;
     Ok(Vars {
         of: Ctype::Int,
-        list: list(alloc, declr)?,
+        list: declrs,
     })
 }
 
 fn param(alloc: Global, of: Ctype, text: &[u8]) -> Result<List<Param>, AllocError> {
-    let param = Param {
-        of,
-        name: Some(bytes(alloc, text)?),
-        array: false,
-        size: None,
-        line: 1,
-    };
-    list(alloc, param)
+    let name = bytes(alloc, text)?;
+    list(
+        alloc,
+        Param {
+            of,
+            name: Some(name),
+            array: false,
+            size: None,
+            line: 1,
+        },
+    )
 }
 
 fn head(
@@ -90,154 +100,162 @@ fn head(
     text: &[u8],
     params: List<Param>,
 ) -> Result<Head, AllocError> {
+    let name = bytes(alloc, text)?;
     Ok(Head {
         result: returns,
-        name: bytes(alloc, text)?,
+        name,
         params,
         line: 1,
     })
 }
 
-/// `{ list }`
-fn block(alloc: Global, list: List<Stmt>) -> Stmt {
-    Stmt::Block {
-        locals: none(alloc),
-        list,
-        line: 1,
+fn function(head: Head, locals: List<Vars>, list: List<Stmt>) -> Item {
+    Item::Function {
+        head,
+        body: Stmt::Block {
+            locals,
+            list,
+            line: 1,
+        },
     }
 }
 
-/// `int main(void) { statement }`
-fn main_with(alloc: Global, statement: Stmt) -> Result<Item, AllocError> {
-    Ok(Item::Function {
-        head: head(alloc, Some(Ctype::Int), b"main", none(alloc))?,
-        body: block(alloc, list(alloc, statement)?),
-    })
-}
-
-fn two(alloc: Global, first: Item, second: Item) -> Result<List<Item>, AllocError> {
-    let mut items = Vec::new(alloc);
-    items.push(first)?;
-    items.push(second)?;
-    Ok(List::from_vec(items))
+/// `int main(void) { body }`
+fn main_with(alloc: Global, body: List<Stmt>) -> Result<Item, AllocError> {
+    let head = head(alloc, Some(Ctype::Int), b"main", none(alloc))?;
+    Ok(function(head, none(alloc), body))
 }
 
 // Units, which the comments spell.
 
 // int main(void) { int a[0]; return 0; }
 fn empty_array(alloc: Global) -> Result<List<Item>, AllocError> {
-    let body = Stmt::Block {
-        locals: list(alloc, array(alloc, b"a", 0)?)?,
-        list: list(alloc, returns(number(0)))?,
-        line: 1,
-    };
+    let locals = list(alloc, array(alloc, b"a", 0)?)?;
+    let body = returned(alloc, number(0))?;
     let head = head(alloc, Some(Ctype::Int), b"main", none(alloc))?;
-    list(alloc, Item::Function { head, body })
+    list(alloc, function(head, locals, body))
 }
 
 // int f(int a); int f(unsigned a) { return 0; }
 fn two_heads(alloc: Global) -> Result<List<Item>, AllocError> {
-    let first = param(alloc, Ctype::Int, b"a")?;
-    let second = param(alloc, Ctype::Unsigned, b"a")?;
-    two(
-        alloc,
-        Item::Proto(head(alloc, Some(Ctype::Int), b"f", first)?),
-        Item::Function {
-            head: head(alloc, Some(Ctype::Int), b"f", second)?,
-            body: block(alloc, list(alloc, returns(number(0)))?),
-        },
-    )
+    let mut items = Vec::new(alloc);
+    let params = param(alloc, Ctype::Int, b"a")?;
+    let first = head(alloc, Some(Ctype::Int), b"f", params)?;
+    items.push(Item::Proto(first))?;
+    let params = param(alloc, Ctype::Unsigned, b"a")?;
+    let second = head(alloc, Some(Ctype::Int), b"f", params)?;
+    let body = returned(alloc, number(0))?;
+    items.push(function(second, none(alloc), body))?;
+    Ok(List::from_vec(items))
+}
+
+// int f(void); int main(void) { return f(args); }
+fn call_of_proto(alloc: Global, args: List<Expr>) -> Result<List<Item>, AllocError> {
+    let body = returned(alloc, call(alloc, b"f", args)?)?;
+    let mut items = Vec::new(alloc);
+    let f = head(alloc, Some(Ctype::Int), b"f", none(alloc))?;
+    items.push(Item::Proto(f))?;
+    items.push(main_with(alloc, body)?)?;
+    Ok(List::from_vec(items))
 }
 
 // int f(void); int main(void) { return f(1 - 1); }
 fn argument(alloc: Global) -> Result<List<Item>, AllocError> {
-    let args = list(alloc, difference(alloc, number(1), number(1))?)?;
-    let value = call(alloc, b"f", args)?;
-    two(
-        alloc,
-        Item::Proto(head(alloc, Some(Ctype::Int), b"f", none(alloc))?),
-        main_with(alloc, returns(value))?,
-    )
-}
-
-// int f(void); int main(void) { return f(); }
-fn no_body(alloc: Global) -> Result<List<Item>, AllocError> {
-    let value = call(alloc, b"f", none(alloc))?;
-    two(
-        alloc,
-        Item::Proto(head(alloc, Some(Ctype::Int), b"f", none(alloc))?),
-        main_with(alloc, returns(value))?,
-    )
+    let args = list(alloc, difference(alloc, 1, 1)?)?;
+    call_of_proto(alloc, args)
 }
 
 // void f(void) {} int main(void) { return f(); }
 fn void_value(alloc: Global) -> Result<List<Item>, AllocError> {
-    let value = call(alloc, b"f", none(alloc))?;
-    two(
-        alloc,
-        Item::Function {
-            head: head(alloc, None, b"f", none(alloc))?,
-            body: block(alloc, none(alloc)),
-        },
-        main_with(alloc, returns(value))?,
-    )
+    let body = returned(alloc, call(alloc, b"f", none(alloc))?)?;
+    let mut items = Vec::new(alloc);
+    let f = head(alloc, None, b"f", none(alloc))?;
+    items.push(function(f, none(alloc), none(alloc)))?;
+    items.push(main_with(alloc, body)?)?;
+    Ok(List::from_vec(items))
 }
 
 // int main(int a) { return a; }
 fn main_of_one(alloc: Global) -> Result<List<Item>, AllocError> {
+    let body = returned(alloc, name(alloc, b"a")?)?;
     let params = param(alloc, Ctype::Int, b"a")?;
-    let value = name(alloc, b"a")?;
     let head = head(alloc, Some(Ctype::Int), b"main", params)?;
-    let body = block(alloc, list(alloc, returns(value))?);
-    list(alloc, Item::Function { head, body })
+    list(alloc, function(head, none(alloc), body))
 }
 
 // int a[3]; int main(void) { return a; }
 fn array_value(alloc: Global) -> Result<List<Item>, AllocError> {
-    let value = name(alloc, b"a")?;
-    two(
-        alloc,
-        Item::Vars(array(alloc, b"a", 3)?),
-        main_with(alloc, returns(value))?,
-    )
+    let body = returned(alloc, name(alloc, b"a")?)?;
+    let mut items = Vec::new(alloc);
+    items.push(Item::Vars(array(alloc, b"a", 3)?))?;
+    items.push(main_with(alloc, body)?)?;
+    Ok(List::from_vec(items))
+}
+
+fn main_alone(alloc: Global, body: List<Stmt>) -> Result<List<Item>, AllocError> {
+    list(alloc, main_with(alloc, body)?)
 }
 
 // int main(void) { return x; }
 fn unknown_name(alloc: Global) -> Result<List<Item>, AllocError> {
-    let value = name(alloc, b"x")?;
-    list(alloc, main_with(alloc, returns(value))?)
+    let body = returned(alloc, name(alloc, b"x")?)?;
+    main_alone(alloc, body)
 }
 
 // int main(void) { printf("%d"); }
 fn no_value_printed(alloc: Global) -> Result<List<Item>, AllocError> {
-    let text = Expr::Text {
-        bytes: bytes(alloc, b"%d")?,
-        line: 1,
-    };
-    let part = call(alloc, b"printf", list(alloc, text)?)?;
-    list(alloc, main_with(alloc, Stmt::Run { part, line: 1 })?)
+    let text = bytes(alloc, b"%d")?;
+    let args = list(
+        alloc,
+        Expr::Text {
+            bytes: text,
+            line: 1,
+        },
+    )?;
+    let part = call(alloc, b"printf", args)?;
+    let body = list(alloc, Stmt::Run { part, line: 1 })?;
+    main_alone(alloc, body)
 }
 
-fn label(value: Option<Expr>, line: u32) -> Label {
-    Label { value, line }
-}
-
-// int main(void) { switch (4) { case 1: default: <newline> case 4 - N: continue; } }
-fn switch(alloc: Global, n: u32) -> Result<List<Item>, AllocError> {
+// case 1: default: <newline> case 4 - n:
+fn labels(alloc: Global, n: u32) -> Result<List<Label>, AllocError> {
     let mut labels = Vec::new(alloc);
-    labels.push(label(Some(number(1)), 1))?;
-    labels.push(label(None, 1))?;
-    labels.push(label(Some(difference(alloc, number(4), number(n))?), 2))?;
-    let arm = Arm {
-        labels: List::from_vec(labels),
-        list: list(alloc, Stmt::Break { line: 2 })?,
-    };
-    let statement = Stmt::Switch {
-        on: number(4),
-        arms: list(alloc, arm)?,
+    labels.push(Label {
+        value: Some(number(1)),
         line: 1,
-    };
-    list(alloc, main_with(alloc, statement)?)
+    })?;
+    labels.push(Label {
+        value: None,
+        line: 1,
+    })?;
+    let value = difference(alloc, 4, n)?;
+    labels.push(Label {
+        value: Some(value),
+        line: 2,
+    })?;
+    Ok(List::from_vec(labels))
+}
+
+// int main(void) { switch (4) { labels break; } }
+fn switch(alloc: Global, n: u32) -> Result<List<Item>, AllocError> {
+    let labels = labels(alloc, n)?;
+    let statements = list(alloc, Stmt::Break { line: 2 })?;
+    let arms = list(
+        alloc,
+        Arm {
+            labels,
+            list: statements,
+        },
+    )?;
+    let body = list(
+        alloc,
+        Stmt::Switch {
+            on: number(4),
+            arms,
+            line: 1,
+        },
+    )?;
+    main_alone(alloc, body)
 }
 
 fn unit(alloc: Global, row: usize) -> Result<List<Item>, AllocError> {
@@ -246,7 +264,7 @@ fn unit(alloc: Global, row: usize) -> Result<List<Item>, AllocError> {
         1 => empty_array(alloc),
         2 => two_heads(alloc),
         3 => argument(alloc),
-        4 => no_body(alloc),
+        4 => call_of_proto(alloc, none(alloc)),
         5 => void_value(alloc),
         6 => main_of_one(alloc),
         7 => array_value(alloc),
@@ -254,9 +272,9 @@ fn unit(alloc: Global, row: usize) -> Result<List<Item>, AllocError> {
         9 => no_value_printed(alloc),
         10 => switch(alloc, 3),
         11 => switch(alloc, 2),
-        12 => list(alloc, main_with(alloc, Stmt::Break { line: 1 })?),
-        13 => list(alloc, main_with(alloc, Stmt::Continue { line: 1 })?),
-        _ => list(alloc, main_with(alloc, returns(number(0)))?),
+        12 => main_alone(alloc, list(alloc, Stmt::Break { line: 1 })?),
+        13 => main_alone(alloc, list(alloc, Stmt::Continue { line: 1 })?),
+        _ => main_alone(alloc, returned(alloc, number(0))?),
     }
 }
 

@@ -93,7 +93,8 @@ place-returns-in-At t c =
     let h0 = rw c.get.ensures at c.element.ensures in
     let h1 = rw c.find-thing.ensures at h0 in
     let h2 = rw c.as_slice-in-At.ensures at h1 in
-    place_form _ _ _ _ _ _ _ _ c.in-At.is (forms.part_at _ c.in-At.name c.in-At.index c.in-At.line) (as_place (find c.args.scope.now.entries.now c.in-At.name) c.in-At.line (part_of (names_of c.args.scope.now.entries.now c.args.scope.now.functions.now) c.in-At.index) c.args.target c.args.texts.now c.element.new.texts c.element.result h2)
+    place_form _ _ _ _ _ _ _ _ c.in-At.is (forms.part_at _ c.in-At.name c.in-At.index c.in-At.line) (as_place (find c.args.scope.now.entries.now c.in-At.name) c.in-At.line
+    (part_of (names_of c.args.scope.now.entries.now c.args.scope.now.functions.now) c.in-At.index) c.args.target c.args.texts.now c.element.new.texts c.element.result h2)
 
 pub arguments-returns-in_err-part : goal.arguments-returns-in_err-part
 arguments-returns-in_err-part t c =
@@ -106,6 +107,7 @@ arguments-returns-in_err-part t c =
     let first : ps ≡ c.param-item.result ∷ drop 1 ps = first_is ps c.param-item.result longer c.param-item.is in
     let f = c.in_err-part.field-0.0 in
     let refused = λ (qs : List Slot) (ys : List Expr). Refuses (spec.arguments qs c.loop-args.list (map part ys) c.loop-args.texts).faults f in
-    let here : refused (c.param-item.result ∷ drop 1 ps) (c.arg-item.result ∷ drop 1 xs) = arguments_err c.param-item.result (drop 1 ps) c.loop-args.list (part c.arg-item.result) (map part (drop 1 xs)) c.loop-args.texts f c.in_err-part.ensures in
+    let here : refused (c.param-item.result ∷ drop 1 ps) (c.arg-item.result ∷ drop 1 xs) = arguments_err c.param-item.result (drop 1 ps) c.loop-args.list
+    (part c.arg-item.result) (map part (drop 1 xs)) c.loop-args.texts f c.in_err-part.ensures in
     let there : refused ps xs = subst (λ ys. refused ps ys) (sym head) (subst (λ qs. refused qs (c.arg-item.result ∷ drop 1 xs)) (sym first) here) in
     gives_err _ _ _ f (subst (λ found. Refuses found.faults f) (sym c.loop-args.invariant.found) there) c.from_residual.ensures.1

@@ -12,4 +12,5 @@ returns-clause-yes c =
     let h2 = rw c.len-from.ensures at h1 in
     let h3 = rw begun at h2 in
     let left = rw c.len-from.ensures at c.truncate.ensures in
-    body_done c.args.file.now c.body_begin.new.file c.args.head.now c.args.params c.args.body.now c.in_ok-made.made c.function_body.new.body c.in_ok-name.name c.truncate.new.self h3 c.in_ok-name.ensures c.in_ok-inside.ensures.left left
+    body_done c.args.file.now c.body_begin.new.file c.args.head.now c.args.params c.args.body.now c.in_ok-made.made c.function_body.new.body c.in_ok-name.name
+    c.truncate.new.self h3 c.in_ok-name.ensures c.in_ok-inside.ensures.left left
