@@ -1,0 +1,65 @@
+-- A call, by its arguments.
+use Rattle.std.proofs.Common.{◌≡◌, ℕ, ◌+◌, ◌≤◌, Bool, true, List, [], ◌∷◌, ◌++◌, length, ◌-◌, take, drop, sym, subst, ap, ◌∙◌, refl, arith, Result, Ok, Err}
+use Rattle.c_tree.specs.declared.program.PExpr.{PExpr}
+use Rattle.c_tree.specs.declared.program.Slot.{Slot}
+use Rattle.c_checker.specs.declared.fault.CheckFault.{CheckFault}
+use Rattle.c_checker.specs.declared.fault.CheckFault.TheVariants.{NotAssignable}
+use Rattle.c_checker.specs.declared.entries.Thing.{Thing}
+use Rattle.c_checker.specs.declared.entries.Thing.TheVariants.{Scalar, Array, Function, BuiltIn, Unknown}
+use Rattle.c_checker.specs.Found.{Check, fine, ◌>>=◌, ◌>>◌, pure, note, unless, Refuses, Gives}
+use Rattle.c_checker.proofs.Found.{refuses_left}
+use denote.Param.Weighed.{most}
+use Rattle.c_tree.specs.declared.tree.Expr.{Expr, size-Expr}
+use Rattle.c_checker.specs.Scope.{Names}
+use Rattle.c_checker.specs.Expressions.{Part, part_of, argument, arguments, values, element, element_place, is_array}
+
+-- what follows a part that breaks no rule
+pub bind_fine : {S A B : Type 0} (m : Check S A) (k : A → Check S B) (s t : S) (x : A) → m s ≡ fine x t → (m >>= k) s ≡ k x t
+bind_fine m k s t x h = rw h refl
+
+pub arguments_next : (x : Slot) (xs : List Slot) (before : List PExpr) (a : Part) (more : List Part) (s t : List (List ℕ)) (e : PExpr) → argument a x s ≡ fine e t
+    → arguments (x ∷ xs) before (a ∷ more) s ≡ arguments xs (before ++ e ∷ []) more t
+arguments_next x xs before a more s t e h = rw h refl
+
+pub arguments_err : (x : Slot) (xs : List Slot) (before : List PExpr) (a : Part) (more : List Part) (s : List (List ℕ)) (f : CheckFault) → Refuses (argument a x s).faults f
+    → Refuses (arguments (x ∷ xs) before (a ∷ more) s).faults f
+arguments_err x xs before a more s f h = refuses_left _ _ f h
+
+pub values_next : (before : List PExpr) (a : Part) (more : List Part) (s t : List (List ℕ)) (e : PExpr) → a.value true s ≡ fine e t → values before (a ∷ more) s ≡ values (before ++ e ∷ []) more t
+values_next before a more s t e h = rw h refl
+
+pub values_err : (before : List PExpr) (a : Part) (more : List Part) (s : List (List ℕ)) (f : CheckFault) → Refuses (a.value true s).faults f → Refuses (values before (a ∷ more) s).faults f
+values_err before a more s f h = refuses_left _ _ f h
+
+take_length : {A : Type 0} (xs : List A) → take (length xs) xs ≡ xs
+take_length [] = refl
+take_length (x ∷ xs) = ap (λ ys. x ∷ ys) (take_length xs)
+
+-- the rest of a list, as a slice pattern gives it
+pub rest_is : {A : Type 0} (xs : List A) → take (length xs - 1) (drop 1 xs) ≡ drop 1 xs
+rest_is [] = refl
+rest_is (x ∷ xs) = let e : length (x ∷ xs) - 1 ≡ length xs = omega arith in ap (λ n. take n xs) e ∙ take_length xs
+
+pub most_rest : (xs : List Expr) → most size-Expr (drop 1 xs) ≤ most size-Expr xs
+most_rest [] = omega arith
+most_rest (x ∷ xs) = omega arith
+
+-- an element that is found is a place
+pub as_place : (thing : Thing) (line : ℕ) (index : Part) (target : ℕ) (s t : List (List ℕ)) (r : Result PExpr CheckFault) → Gives (element thing line index s) r t
+    → Gives (element_place thing line index target s) r t
+as_place thing line index target s t (Err f) h = refuses_left _ _ f h
+as_place (Array what of) line index target s t (Ok e) h = bind_fine (element (Array what of) line index) (λ x. note (unless (is_array (Array what of)) (NotAssignable target)) >> pure x) s t e h
+as_place (Scalar what of) line index target s t (Ok e) h = let no = ap (λ x. x.faults) h in absurd cc
+as_place (Function number result) line index target s t (Ok e) h = let no = ap (λ x. x.faults) h in absurd cc
+as_place (BuiltIn b) line index target s t (Ok e) h = let no = ap (λ x. x.faults) h in absurd cc
+as_place Unknown line index target s t (Ok e) h = let no = ap (λ x. x.faults) h in absurd cc
+
+-- a value, by the form of the expression
+pub value_form : (names : Names) (e form : Expr) (p : Part) (used : Bool) (s t : List (List ℕ)) (r : Result PExpr CheckFault) → e ≡ form → part_of names form ≡ p
+    → Gives (p.value used s) r t → Gives ((part_of names e).value used s) r t
+value_form names e form p used s t r is same h = subst (λ p. Gives (p.value used s) r t) (sym (ap (part_of names) is ∙ same)) h
+
+-- the same of a place
+pub place_form : (names : Names) (e form : Expr) (p : Part) (target : ℕ) (s t : List (List ℕ)) (r : Result PExpr CheckFault) → e ≡ form → part_of names form ≡ p
+    → Gives (p.place target s) r t → Gives ((part_of names e).place target s) r t
+place_form names e form p target s t r is same h = subst (λ p. Gives (p.place target s) r t) (sym (ap (part_of names) is ∙ same)) h

@@ -1,0 +1,541 @@
+//! Statements.
+
+ghost use Rattle.std.specs.Prelude.{◌≡◌, [], ◌∷◌, ◌++◌, map, option_map, IfOk};
+ghost use Rattle.c_checker.specs.Found.{Gives, Tests};
+ghost use Rattle.c_checker.specs.Statements as spec;
+ghost use Rattle.c_checker.specs.Statements.{stmt_of, arm_of};
+
+use crate::body::{begin_block, expression, optional};
+use crate::fault::CheckFault;
+use crate::headings::Heading;
+use crate::labels::{Labels, make_labels};
+use crate::state::{Around, Body};
+use c_tree::{Arm, Expr, PArm, PExpr, PStmt, Stmt, Vars};
+use nm_base::{Ctype, List};
+use sqlite_items::Boxed;
+use std::alloc::Global;
+
+fn outside() -> Around
+    ensures { result ≡ spec.outside }
+{
+    Around {
+        in_loop: false,
+        breaks: false,
+    }
+}
+
+fn inside_loop() -> Around
+    ensures { result ≡ spec.inside_loop }
+{
+    Around {
+        in_loop: true,
+        breaks: true,
+    }
+}
+
+fn inside_switch(around: Around) -> Around
+    ensures { result ≡ spec.inside_switch around }
+{
+    Around {
+        in_loop: around.in_loop,
+        breaks: true,
+    }
+}
+
+/// An expression whose value isn't used.
+#[tactic(auto, using(crate::proofs::Found::refuses_left))]
+fn run(
+    alloc: Global,
+    functions: &[Heading],
+    body: &mut Body,
+    part: &Expr,
+    line: u32,
+) -> Result<PStmt, CheckFault>
+    ensures { Gives (spec.run functions.now part.now line body.old) result body.new }
+{
+    let part = expression(alloc, functions, body, part, false)?;
+    Ok(PStmt::Run { part, line })
+}
+
+fn break_stmt(around: Around, line: u32) -> Result<PStmt, CheckFault>
+    ensures { (s : _) → Gives (spec.break_stmt [] line around s) result s }
+{
+    if around.breaks {
+        Ok(PStmt::Break { line })
+    } else {
+        Err(CheckFault::BreakOutside { line })
+    }
+}
+
+fn continue_stmt(around: Around, line: u32) -> Result<PStmt, CheckFault>
+    ensures { (s : _) → Gives (spec.continue_stmt [] line around s) result s }
+{
+    if around.in_loop {
+        Ok(PStmt::Continue { line })
+    } else {
+        Err(CheckFault::ContinueOutside { line })
+    }
+}
+
+#[tactic(auto, using(crate::proofs::Found::refuses_left))]
+fn return_stmt(
+    alloc: Global,
+    functions: &[Heading],
+    returns: Option<Ctype>,
+    body: &mut Body,
+    value: &Option<Expr>,
+    line: u32,
+) -> Result<PStmt, CheckFault>
+    ensures { Gives (spec.return_stmt functions.now returns value.now line body.old) result body.new }
+{
+    if value.is_some() && returns.is_none() {
+        return Err(CheckFault::VoidValue { line });
+    }
+    let value = optional(alloc, functions, body, value, true)?;
+    Ok(PStmt::Return { value, line })
+}
+
+/// The expressions of a `for`.
+#[tactic(auto, using(crate::proofs::Found::refuses_left))]
+fn controls(
+    alloc: Global,
+    functions: &[Heading],
+    body: &mut Body,
+    first: &Option<Expr>,
+    test: &Option<Expr>,
+    third: &Option<Expr>,
+) -> Result<(Option<PExpr>, Option<PExpr>, Option<PExpr>), CheckFault>
+    ensures { Gives (spec.controls functions.now first.now test.now third.now body.old) result body.new }
+{
+    let first = optional(alloc, functions, body, first, false)?;
+    let test = optional(alloc, functions, body, test, true)?;
+    let third = optional(alloc, functions, body, third, false)?;
+    Ok((first, test, third))
+}
+
+/// A block whose names begin at the entry `from`.
+#[cycle(stmt)]
+#[tactic(auto, using(crate::proofs::Found::refuses_left))]
+fn block_from(
+    alloc: Global,
+    functions: &[Heading],
+    returns: Option<Ctype>,
+    body: &mut Body,
+    from: usize,
+    vars: &[Vars],
+    list: &[Stmt],
+    line: u32,
+    around: Around,
+) -> Result<PStmt, CheckFault>
+    ensures { Gives (spec.block_from functions.now from vars.now (map (stmt_of functions.now returns) list.now) line around body.old) result body.new }
+{
+    let visible = body.entries.len();
+    let locals = begin_block(alloc, functions, body, from, vars)?;
+    let list = sequence(alloc, functions, returns, body, list, around)?;
+    body.entries.truncate(visible);
+    Ok(PStmt::Block { locals, list, line })
+}
+
+/// Statements in order.
+#[cycle(stmt)]
+#[tactic(auto, using(crate::proofs::Found::refuses_left))]
+fn sequence(
+    alloc: Global,
+    functions: &[Heading],
+    returns: Option<Ctype>,
+    body: &mut Body,
+    mut list: &[Stmt],
+    around: Around,
+) -> Result<List<PStmt>, CheckFault>
+    ensures { Gives (spec.sequence [] (map (stmt_of functions.now returns) list.entry.now) around body.old) result body.new }
+{
+    let mut done = List::from_vec(Vec::new(alloc));
+    while let [first, rest @ ..] = list {
+        let made = stmt(alloc, functions, returns, body, first, around)?;
+        done.push(alloc, made)?;
+        list = rest;
+    }
+    Ok(done)
+}
+
+/// A statement that is a part of another.
+#[cycle(stmt)]
+#[tactic(auto, using(crate::proofs::Found::refuses_left))]
+fn part(
+    alloc: Global,
+    functions: &[Heading],
+    returns: Option<Ctype>,
+    body: &mut Body,
+    inner: &Stmt,
+    around: Around,
+) -> Result<Boxed<PStmt>, CheckFault>
+    ensures { Gives ((stmt_of functions.now returns inner.now).check around body.old) result body.new }
+{
+    let made = stmt(alloc, functions, returns, body, inner, around)?;
+    Ok(Boxed::new(alloc, made)?)
+}
+
+#[cycle(stmt)]
+fn else_part(
+    alloc: Global,
+    functions: &[Heading],
+    returns: Option<Ctype>,
+    body: &mut Body,
+    inner: &Option<Boxed<Stmt>>,
+    around: Around,
+) -> Result<Option<Boxed<PStmt>>, CheckFault>
+    ensures { Gives (spec.else_part (option_map (stmt_of functions.now returns) inner.now) around body.old) result body.new }
+{
+    match inner {
+        Some(inner) => Ok(Some(part(alloc, functions, returns, body, inner.get(), around)?)),
+        None => Ok(None),
+    }
+}
+
+#[cycle(stmt)]
+#[tactic(auto, using(crate::proofs::Found::refuses_left))]
+fn if_stmt(
+    alloc: Global,
+    functions: &[Heading],
+    returns: Option<Ctype>,
+    body: &mut Body,
+    test: &Expr,
+    yes: &Stmt,
+    no: &Option<Boxed<Stmt>>,
+    line: u32,
+    around: Around,
+) -> Result<PStmt, CheckFault>
+    ensures { Gives (spec.if_stmt functions.now test.now (stmt_of functions.now returns yes.now) (option_map (stmt_of functions.now returns) no.now) line around body.old) result body.new }
+{
+    let test = expression(alloc, functions, body, test, true)?;
+    let yes = part(alloc, functions, returns, body, yes, around)?;
+    let no = else_part(alloc, functions, returns, body, no, around)?;
+    Ok(PStmt::If {
+        test,
+        yes,
+        no,
+        line,
+    })
+}
+
+#[cycle(stmt)]
+#[tactic(auto, using(crate::proofs::Found::refuses_left))]
+fn while_stmt(
+    alloc: Global,
+    functions: &[Heading],
+    returns: Option<Ctype>,
+    body: &mut Body,
+    test: &Expr,
+    inner: &Stmt,
+    line: u32,
+) -> Result<PStmt, CheckFault>
+    ensures { Gives (spec.while_stmt functions.now test.now (stmt_of functions.now returns inner.now) line body.old) result body.new }
+{
+    let test = expression(alloc, functions, body, test, true)?;
+    let inner = part(alloc, functions, returns, body, inner, inside_loop())?;
+    Ok(PStmt::While {
+        test,
+        body: inner,
+        line,
+    })
+}
+
+#[cycle(stmt)]
+#[tactic(auto, using(crate::proofs::Found::refuses_left))]
+fn do_stmt(
+    alloc: Global,
+    functions: &[Heading],
+    returns: Option<Ctype>,
+    body: &mut Body,
+    inner: &Stmt,
+    test: &Expr,
+    line: u32,
+) -> Result<PStmt, CheckFault>
+    ensures { Gives (spec.do_stmt functions.now (stmt_of functions.now returns inner.now) test.now line body.old) result body.new }
+{
+    let inner = part(alloc, functions, returns, body, inner, inside_loop())?;
+    let test = expression(alloc, functions, body, test, true)?;
+    Ok(PStmt::Do {
+        body: inner,
+        test,
+        line,
+    })
+}
+
+#[cycle(stmt)]
+#[tactic(auto, using(crate::proofs::Found::refuses_left))]
+fn for_stmt(
+    alloc: Global,
+    functions: &[Heading],
+    returns: Option<Ctype>,
+    body: &mut Body,
+    first: &Option<Expr>,
+    test: &Option<Expr>,
+    third: &Option<Expr>,
+    inner: &Stmt,
+    line: u32,
+) -> Result<PStmt, CheckFault>
+    ensures { Gives (spec.for_stmt functions.now first.now test.now third.now (stmt_of functions.now returns inner.now) line body.old) result body.new }
+{
+    let (first, test, third) = controls(alloc, functions, body, first, test, third)?;
+    let inner = part(alloc, functions, returns, body, inner, inside_loop())?;
+    Ok(PStmt::For {
+        first,
+        test,
+        third,
+        body: inner,
+        line,
+    })
+}
+
+/// An arm of a switch, after the labels of the switch before it.
+#[cycle(stmt)]
+#[tactic(auto, using(crate::proofs::Found::refuses_left, crate::proofs::StmtForms::arm_form))]
+fn arm(
+    alloc: Global,
+    functions: &[Heading],
+    returns: Option<Ctype>,
+    body: &mut Body,
+    arm: &Arm,
+    before: &mut Labels,
+    line: u32,
+    around: Around,
+) -> Result<PArm, CheckFault>
+    ensures found { Gives ((arm_of functions.now returns arm.now).check before.old line around body.old) result body.new }
+    ensures added { IfOk result (λ y. before.new ≡ before.old ++ y.labels) }
+{
+    let these = arm.labels.as_slice();
+    if these.is_empty() {
+        return Err(CheckFault::NotConstant { line });
+    }
+    let labels = make_labels(alloc, before, these)?;
+    let list = sequence(alloc, functions, returns, body, arm.list.as_slice(), around)?;
+    Ok(PArm { labels, list })
+}
+
+/// The arms of a switch.
+#[cycle(stmt)]
+#[tactic(auto, using(crate::proofs::Found::refuses_left))]
+fn arms(
+    alloc: Global,
+    functions: &[Heading],
+    returns: Option<Ctype>,
+    body: &mut Body,
+    mut arms: &[Arm],
+    line: u32,
+    around: Around,
+) -> Result<List<PArm>, CheckFault>
+    ensures { Gives (spec.arms (map (arm_of functions.now returns) arms.entry.now) [] [] line around body.old) result body.new }
+{
+    let mut before = Labels::new(alloc);
+    let mut done = List::from_vec(Vec::new(alloc));
+    while let [first, rest @ ..] = arms {
+        let made = arm(
+            alloc,
+            functions,
+            returns,
+            body,
+            first,
+            &mut before,
+            line,
+            around,
+        )?;
+        done.push(alloc, made)?;
+        arms = rest;
+    }
+    Ok(done)
+}
+
+#[cycle(stmt)]
+#[tactic(auto, using(crate::proofs::Found::refuses_left))]
+fn switch_stmt(
+    alloc: Global,
+    functions: &[Heading],
+    returns: Option<Ctype>,
+    body: &mut Body,
+    on: &Expr,
+    list: &[Arm],
+    line: u32,
+    around: Around,
+) -> Result<PStmt, CheckFault>
+    ensures { Gives (spec.switch_stmt functions.now on.now (map (arm_of functions.now returns) list.now) line around body.old) result body.new }
+{
+    let on = expression(alloc, functions, body, on, true)?;
+    let arms = arms(
+        alloc,
+        functions,
+        returns,
+        body,
+        list,
+        line,
+        inside_switch(around),
+    )?;
+    Ok(PStmt::Switch { on, arms, line })
+}
+
+/// A statement.
+#[cycle(stmt)]
+#[tactic(auto, using(crate::proofs::StmtForms::stmt_empty))]
+pub fn stmt(
+    alloc: Global,
+    functions: &[Heading],
+    returns: Option<Ctype>,
+    body: &mut Body,
+    s: &Stmt,
+    around: Around,
+) -> Result<PStmt, CheckFault>
+    ensures { Gives ((stmt_of functions.now returns s.now).check around body.old) result body.new }
+{
+    match s {
+        Stmt::Block { locals, list, line } => {
+            let from = body.entries.len();
+            block_from(
+                alloc,
+                functions,
+                returns,
+                body,
+                from,
+                locals.as_slice(),
+                list.as_slice(),
+                *line,
+                around,
+            )
+        }
+        Stmt::Empty { line } => Ok(PStmt::Empty { line: *line }),
+        Stmt::Run { part, line } => run(alloc, functions, body, part, *line),
+        Stmt::If {
+            test,
+            yes,
+            no,
+            line,
+        } => if_stmt(
+            alloc,
+            functions,
+            returns,
+            body,
+            test,
+            yes.get(),
+            no,
+            *line,
+            around,
+        ),
+        Stmt::While {
+            test,
+            body: inner,
+            line,
+        } => while_stmt(alloc, functions, returns, body, test, inner.get(), *line),
+        Stmt::Do {
+            body: inner,
+            test,
+            line,
+        } => do_stmt(alloc, functions, returns, body, inner.get(), test, *line),
+        Stmt::For {
+            first,
+            test,
+            third,
+            body: inner,
+            line,
+        } => for_stmt(
+            alloc,
+            functions,
+            returns,
+            body,
+            first,
+            test,
+            third,
+            inner.get(),
+            *line,
+        ),
+        Stmt::Break { line } => break_stmt(around, *line),
+        Stmt::Continue { line } => continue_stmt(around, *line),
+        Stmt::Return { value, line } => return_stmt(alloc, functions, returns, body, value, *line),
+        Stmt::Switch { on, arms, line } => {
+            switch_stmt(
+                alloc,
+                functions,
+                returns,
+                body,
+                on,
+                arms.as_slice(),
+                *line,
+                around,
+            )
+        }
+    }
+}
+
+/// The list of one statement.
+#[tactic(auto, using(crate::proofs::Found::refuses_left))]
+fn only(
+    alloc: Global,
+    functions: &[Heading],
+    returns: Option<Ctype>,
+    body: &mut Body,
+    s: &Stmt,
+) -> Result<List<PStmt>, CheckFault>
+    ensures { Gives (spec.sequence [] (record { check = (stmt_of functions.now returns s.now).check; body = λ _. (stmt_of functions.now returns s.now).check spec.outside } ∷
+        []) spec.outside body.old) result body.new }
+{
+    let made = stmt(alloc, functions, returns, body, s, outside())?;
+    let mut list = List::from_vec(Vec::new(alloc));
+    list.push(alloc, made)?;
+    Ok(list)
+}
+
+/// A block of one statement, as a function's body.
+#[tactic(auto, using(crate::proofs::Found::refuses_left))]
+fn alone(
+    alloc: Global,
+    functions: &[Heading],
+    returns: Option<Ctype>,
+    body: &mut Body,
+    s: &Stmt,
+    from: usize,
+    line: u32,
+) -> Result<PStmt, CheckFault>
+    ensures { Gives (spec.alone functions.now (stmt_of functions.now returns s.now).check line from body.old) result body.new }
+{
+    let visible = body.entries.len();
+    let locals = begin_block(alloc, functions, body, from, &[])?;
+    let list = only(alloc, functions, returns, body, s)?;
+    body.entries.truncate(visible);
+    Ok(PStmt::Block { locals, list, line })
+}
+
+/// A function's body, in whose block the names begin at the entry `from`.
+pub fn function_body(
+    alloc: Global,
+    functions: &[Heading],
+    returns: Option<Ctype>,
+    body: &mut Body,
+    s: &Stmt,
+    from: usize,
+) -> Result<PStmt, CheckFault>
+    ensures { Gives ((stmt_of functions.now returns s.now).body from body.old) result body.new }
+{
+    match s {
+        Stmt::Block { locals, list, line } => {
+            block_from(
+                alloc,
+                functions,
+                returns,
+                body,
+                from,
+                locals.as_slice(),
+                list.as_slice(),
+                *line,
+                outside(),
+            )
+        }
+        Stmt::Empty { line }
+        | Stmt::Run { line, .. }
+        | Stmt::If { line, .. }
+        | Stmt::While { line, .. }
+        | Stmt::Do { line, .. }
+        | Stmt::For { line, .. }
+        | Stmt::Break { line }
+        | Stmt::Continue { line }
+        | Stmt::Return { line, .. }
+        | Stmt::Switch { line, .. } => alone(alloc, functions, returns, body, s, from, *line),
+    }
+}
