@@ -17,7 +17,8 @@ pub is_program : is_checked (the_global ∷ []) (the_main ∷ []) [] 0 ≡ true
 unfolding hidden shape-the_row-PExpr-0 hidden-the_row-PExpr-0 shape-the_row-PExpr-1 hidden-the_row-PExpr-1 shape-the_row-PStmt-0 hidden-the_row-PStmt-0 shape-the_row-PStmt-1 hidden-the_row-PStmt-1
 is_program = refl
 
-pub is_program_by : (globals : List Global) (functions : List Function) (texts : List (List ℕ)) → globals ≡ the_global ∷ [] → functions ≡ the_main ∷ [] → texts ≡ [] → is_checked globals functions texts 0 ≡ true
+pub is_program_by : (globals : List Global) (functions : List Function) (texts : List (List ℕ)) → globals ≡ the_global ∷ [] → functions ≡ the_main ∷ [] → texts ≡ []
+    → is_checked globals functions texts 0 ≡ true
 is_program_by globals functions texts e1 e2 e3 =
     ap (λ x. is_checked x functions texts 0) e1 ∙ ap (λ x. is_checked (the_global ∷ []) x texts 0) e2 ∙ ap (λ x. is_checked (the_global ∷ []) (the_main ∷ []) x 0) e3 ∙ is_program
 

@@ -13,7 +13,8 @@ returns-in_ok-emit_inside-in-Block c =
     let s = c.args.s.now in
     let b = c.in-Block in
     let slots = c.in_ok-slots-in-Block.ensures ∙ ap (λ (l : List Start). map (λ x. x.slot) l) c.as_slice.ensures in
-    let wrote0 = subst (λ (l : List Start). Wrote c.open.new.self c.emit_inside.new.body (code_of_inside sh l c.as_slice-in-Block-2.result.now c.args.exits)) c.as_slice-in-Block.ensures c.in_ok-emit_inside-in-Block.ensures in
+    let wrote0 = subst (λ (l : List Start). Wrote c.open.new.self c.emit_inside.new.body (code_of_inside sh l c.as_slice-in-Block-2.result.now c.args.exits)) c.as_slice-in-Block.ensures
+    c.in_ok-emit_inside-in-Block.ensures in
     let wrote = subst (λ (l : List PStmt). Wrote c.open.new.self c.emit_inside.new.body (code_of_inside sh b.locals l c.args.exits)) c.as_slice-in-Block-2.ensures wrote0 in
     record {
       fine = wrote.fine;
