@@ -1,8 +1,7 @@
 -- What is written one part after another.
-use Rattle.std.proofs.Common.{◌≡◌, ℕ, ◌+◌, ◌<◌, List, [], ◌∷◌, ◌++◌, length, refl, sym, ap, ◌∙◌, subst, arith, append_assoc}
+use Rattle.std.proofs.Common.{◌≡◌, ℕ, List, [], ◌∷◌, ◌++◌, length, refl, sym, ap, ◌∙◌, subst, append_assoc}
 use Rattle.stack_code.specs.declared.code.Block.{Block}
-use Rattle.stack_code.specs.Blocks.{entered_in, table_of, placed_in}
-use Rattle.stack_code.specs.Code.{Placed}
+use Rattle.stack_code.specs.Blocks.{entered_in, table_of}
 use Rattle.c_compile.specs.Asm.{Laid, nothing, ◌⨾◌}
 use Rattle.c_compile.specs.StmtCode.{Blocks}
 use Rattle.c_compile.specs.Emitted.{after}

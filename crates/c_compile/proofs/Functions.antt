@@ -1,6 +1,6 @@
 -- The code of a function, as it is written.
-use Rattle.std.proofs.Common.{◌≡◌, ℕ, zero, suc, ◌+◌, ◌<◌, ◌≤◌, Bool, true, false, List, [], ◌∷◌, ◌++◌, map, length, get_or, Some, None, refl, sym, ap, ◌∙◌, subst, arith}
-use Rattle.std.specs.Prelude.{◌&&◌, ◌==◌, nat_le, IsTrue}
+use Rattle.std.proofs.Common.{◌≡◌, ℕ, suc, ◌+◌, ◌<◌, Bool, true, List, [], ◌∷◌, map, length, get_or, refl, sym, ap, ◌∙◌, subst, arith}
+use Rattle.std.specs.Prelude.{◌&&◌, ◌==◌, nat_le}
 use Rattle.std.specs.List.{list_all}
 use Rattle.std.proofs.lemmas.Bool.{eq-eqb, le-leb}
 use Rattle.c_tree.specs.declared.program.Global.{Global}
@@ -9,16 +9,15 @@ use Rattle.c_tree.specs.declared.program.Start.{Start}
 use Rattle.c_tree.specs.declared.program.PArm.{PArm}
 use Rattle.c_tree.specs.declared.program.PStmt.{PStmt, roll-PStmt, Block}
 use Rattle.c_tree.specs.declared.program.PStmt.TheVariants.{rolls-Block}
-use Rattle.c_tree.specs.declared.program.PStmt.TheOpen.{PStmt-F, PArm-F}
+use Rattle.c_tree.specs.declared.program.PStmt.TheOpen.{PStmt-F}
 use Rattle.c_tree.specs.declared.program.PStmt.TheFolds.{ind-PStmt, map-PStmt}
 use Rattle.c_tree.specs.Storage.{words_of, words_of_slot}
 use Rattle.c_tree.specs.Expr.{slots_of, frame_words}
 use Rattle.stack_code.specs.declared.instr.Instr.TheVariants as instr
-use Rattle.stack_code.specs.declared.code.Block.{Block as CodeBlock}
 use Rattle.stack_code.specs.declared.code.Variable.{Variable}
 use Rattle.stack_code.specs.declared.code.CodeFunction.{CodeFunction}
 use Rattle.stack_code.specs.Code.{Placed, FunctionCode}
-use Rattle.stack_code.specs.Blocks.{function_of, is_kept, blocks_nest}
+use Rattle.stack_code.specs.Blocks.{is_kept, blocks_nest}
 use Rattle.c_compile.specs.Asm.{Laid, ◌⨾◌}
 use Rattle.c_compile.specs.ExprCode.{Shape}
 use Rattle.c_compile.specs.Variables.{slots_from}

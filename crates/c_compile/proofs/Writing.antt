@@ -1,5 +1,5 @@
 -- The parts of statements, as they are written.
-use Rattle.std.proofs.Common.{◌≡◌, ℕ, ◌+◌, ◌<◌, Bool, true, false, List, [], ◌∷◌, ◌++◌, append_assoc, map, length, drop, get_or, Option, Some, None, Result, refl, sym, ap, ◌∙◌, subst}
+use Rattle.std.proofs.Common.{◌≡◌, ℕ, ◌+◌, ◌<◌, true, false, List, [], ◌∷◌, ◌++◌, append_assoc, map, length, drop, get_or, Option, Some, None, Result, refl, sym, ap, ◌∙◌, subst}
 use Rattle.std.specs.Prelude.{OnOk, slice_get}
 use Rattle.std.specs.List.{list_any}
 use Rattle.std.proofs.lemmas.List.{drop_more, append-nil}
@@ -15,7 +15,6 @@ use Rattle.c_tree.specs.Stmt.{is_default}
 use Rattle.stack_code.specs.declared.instr.Instr.TheVariants as instr
 use Rattle.c_compile.specs.Asm.{Laid, nothing, ◌⨾◌}
 use Rattle.c_compile.specs.ExprCode.{Shape}
-use Rattle.c_compile.specs.StmtCode as spec
 use Rattle.c_compile.specs.StmtCode.{Blocks, put, effect_code, test_code, returned, zero_by, start_by, case_code, arm_code, place_of_label}
 use Rattle.c_compile.specs.Emitted.{value_of, code_of_value, code_of_zeros, code_of_starts, code_of_labels, code_of_cases, end_of_list, default_place_of}
 use Rattle.c_compile.specs.declared.body.Body.{Body}

@@ -1,21 +1,19 @@
 -- The code of each kind of statement, as it is written.
-use Rattle.std.proofs.Common.{◌≡◌, ℕ, ◌+◌, ◌<◌, List, [], ◌∷◌, map, length, drop, get_or, Option, Some, None, refl, sym, ap, ◌∙◌, subst}
+use Rattle.std.proofs.Common.{◌≡◌, ℕ, ◌+◌, ◌<◌, List, [], ◌∷◌, map, length, drop, get_or, Option, Some, None, refl, ap, ◌∙◌}
 use Rattle.c_tree.specs.declared.program.Start.{Start}
 use Rattle.c_tree.specs.declared.program.PExpr.{PExpr}
 use Rattle.c_tree.specs.declared.program.PArm.{PArm}
 use Rattle.c_tree.specs.declared.program.PStmt.{PStmt, Block, Empty, Run, If, While, Do, For, Break, Continue, Return, Switch}
 use Rattle.c_tree.specs.declared.program.PStmt.TheVariants.{rolls-Block, rolls-Empty, rolls-Run, rolls-If, rolls-While, rolls-Do, rolls-For, rolls-Break, rolls-Continue, rolls-Return, rolls-Switch}
 use Rattle.c_tree.specs.declared.program.PStmt.TheOpen.{PStmt-F}
-use Rattle.stack_code.specs.declared.instr.Instr.{Instr}
 use Rattle.stack_code.specs.declared.instr.Instr.TheVariants as instr
 use Rattle.c_compile.specs.Asm.{Laid, nothing, ◌⨾◌}
 use Rattle.c_compile.specs.ExprCode.{Shape}
-use Rattle.c_compile.specs.StmtCode as spec
-use Rattle.c_compile.specs.StmtCode.{Blocks, Exits, StmtCode, ArmCode, stmt_code, arm_code, put, effect_code, effect_ends, test_code, returned, if_code, while_code, do_code, for_code, switch_code}
+use Rattle.c_compile.specs.StmtCode.{Blocks, Exits, stmt_code, put, effect_code, effect_ends, test_code, returned, if_code, while_code, do_code, for_code}
 use Rattle.c_compile.specs.Emitted.{value_of, code_of_value, code_of_zeros, code_of_starts, code_of_stmt, code_of_list, code_of_arms, code_of_cases, code_of_inside, code_of_switch, end_of_value}
 use Rattle.c_compile.specs.Emitted.{end_of_stmt, end_of_arms, end_of_cases, default_place_of}
 use Rattle.c_compile.specs.declared.body.Body.{Body}
-use Rattle.c_compile.specs.Body.{steps_of, blocks_of, IsLaidOut, Wrote}
+use Rattle.c_compile.specs.Body.{steps_of, blocks_of, Wrote}
 use Rattle.c_compile.proofs.Bodies.{wrote_nothing, wrote_both, wrote_as, Onward, onward_more}
 use Rattle.c_compile.proofs.ByStmt.{stmt_is}
 use Rattle.c_compile.proofs.Writing.{drops}

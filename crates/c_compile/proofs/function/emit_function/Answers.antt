@@ -1,4 +1,4 @@
-use Rattle.std.proofs.Common.{◌+◌, ap, sym, ◌∙◌, length, refl, arith}
+use Rattle.std.proofs.Common.{◌+◌, ap, ◌∙◌, length, refl, arith}
 use Rattle.std.specs.Prelude.{string_bytes}
 use Rattle.c_tree.specs.Storage.{words_of, words_of_slot}
 use Rattle.stack_code.specs.declared.code.CodeFunction.{CodeFunction}

@@ -1,4 +1,4 @@
-use Rattle.std.proofs.Common.{◌≡◌, ◌++◌, ◌<◌, ap, sym, ◌∙◌, subst, map, length, get_or, arith}
+use Rattle.std.proofs.Common.{◌≡◌, ◌++◌, ◌<◌, ap, ◌∙◌, subst, map, length, get_or, arith}
 use Rattle.std.specs.List.{list_all}
 use Rattle.c_tree.specs.Storage.{words_of, words_of_global}
 use Rattle.stack_code.specs.Blocks.{function_of, is_kept}

@@ -1,4 +1,4 @@
-use Rattle.std.proofs.Common.{◌≡◌, length, arith, map}
+use Rattle.std.proofs.Common.{◌≡◌, length, arith}
 use Rattle.c_compile.proofs.Writing.{map_more, map_end}
 use Rattle.c_compile.proofs.stmt.slots_in.Goals as goal
 

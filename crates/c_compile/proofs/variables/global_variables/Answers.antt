@@ -1,4 +1,4 @@
-use Rattle.std.proofs.Common.{◌≡◌, ◌+◌, ◌^◌, ◌<◌, ap, sym, ◌∙◌, length, arith}
+use Rattle.std.proofs.Common.{◌≡◌, ◌+◌, ◌^◌, ap, length, arith}
 use Rattle.c_tree.specs.Storage.{words_of, words_of_global}
 use Rattle.c_compile.proofs.Making.{globals_more, globals_end, words_more, words_fit}
 use Rattle.c_compile.proofs.variables.global_variables.Goals as goal

@@ -1,4 +1,3 @@
-use Rattle.c_tree.specs.Expr.{slots_of}
 use Rattle.c_compile.proofs.Places.{global_place, global_place_past}
 use Rattle.c_compile.proofs.scope.Scope.global_place.Goals as goal
 
