@@ -1,8 +1,7 @@
 -- What is written one part after another.
-use Rattle.std.proofs.Common.{◌≡◌, ℕ, ◌+◌, ◌<◌, List, [], ◌∷◌, ◌++◌, length, refl, sym, ap, ◌∙◌, subst, arith, append_assoc}
+use Rattle.std.proofs.Common.{◌≡◌, ℕ, List, [], ◌∷◌, ◌++◌, length, refl, sym, ap, ◌∙◌, subst, append_assoc}
 use Rattle.stack_code.specs.declared.code.Block.{Block}
-use Rattle.stack_code.specs.Blocks.{entered_in, table_of, placed_in}
-use Rattle.stack_code.specs.Code.{Placed}
+use Rattle.stack_code.specs.Blocks.{entered_in, table_of}
 use Rattle.c_compile.specs.Asm.{Laid, nothing, ◌⨾◌}
 use Rattle.c_compile.specs.StmtCode.{Blocks}
 use Rattle.c_compile.specs.Emitted.{after}
@@ -43,7 +42,8 @@ wrote_as {a = a} {b = b} {x = x} y h e = record {
 }
 
 -- a block, with what is written in it
-pub wrote_block : {a b c d : Body} {slots : List ℕ} {x : Blocks → Laid} (outer : ℕ) → IsLaidOut a → outer ≡ a.block → Opened a b slots → Wrote b c x → Closed c d outer → Wrote a d (λ blocks. x (slots ∷ blocks))
+pub wrote_block : {a b c d : Body} {slots : List ℕ} {x : Blocks → Laid} (outer : ℕ) → IsLaidOut a → outer ≡ a.block → Opened a b slots → Wrote b c x → Closed c d outer
+    → Wrote a d (λ blocks. x (slots ∷ blocks))
 wrote_block {a = a} {b = b} {c = c} {d = d} {slots = slots} {x = x} outer fine is o w e =
     let more : Extends a.blocks.items d.blocks.items = subst (Extends a.blocks.items) (sym e.same) (extends_both a.blocks.items b.blocks.items c.blocks.items o.more w.more) in
     let block : d.block ≡ a.block = e.block ∙ is in

@@ -1,6 +1,6 @@
 -- The code of a function, as it is written.
-use Rattle.std.proofs.Common.{◌≡◌, ℕ, zero, suc, ◌+◌, ◌<◌, ◌≤◌, Bool, true, false, List, [], ◌∷◌, ◌++◌, map, length, get_or, Some, None, refl, sym, ap, ◌∙◌, subst, arith}
-use Rattle.std.specs.Prelude.{◌&&◌, ◌==◌, nat_le, IsTrue}
+use Rattle.std.proofs.Common.{◌≡◌, ℕ, suc, ◌+◌, ◌<◌, Bool, true, List, [], ◌∷◌, map, length, get_or, refl, sym, ap, ◌∙◌, subst, arith}
+use Rattle.std.specs.Prelude.{◌&&◌, ◌==◌, nat_le}
 use Rattle.std.specs.List.{list_all}
 use Rattle.std.proofs.lemmas.Bool.{eq-eqb, le-leb}
 use Rattle.c_tree.specs.declared.program.Global.{Global}
@@ -9,16 +9,15 @@ use Rattle.c_tree.specs.declared.program.Start.{Start}
 use Rattle.c_tree.specs.declared.program.PArm.{PArm}
 use Rattle.c_tree.specs.declared.program.PStmt.{PStmt, roll-PStmt, Block}
 use Rattle.c_tree.specs.declared.program.PStmt.TheVariants.{rolls-Block}
-use Rattle.c_tree.specs.declared.program.PStmt.TheOpen.{PStmt-F, PArm-F}
+use Rattle.c_tree.specs.declared.program.PStmt.TheOpen.{PStmt-F}
 use Rattle.c_tree.specs.declared.program.PStmt.TheFolds.{ind-PStmt, map-PStmt}
 use Rattle.c_tree.specs.Storage.{words_of, words_of_slot}
 use Rattle.c_tree.specs.Expr.{slots_of, frame_words}
 use Rattle.stack_code.specs.declared.instr.Instr.TheVariants as instr
-use Rattle.stack_code.specs.declared.code.Block.{Block as CodeBlock}
 use Rattle.stack_code.specs.declared.code.Variable.{Variable}
 use Rattle.stack_code.specs.declared.code.CodeFunction.{CodeFunction}
 use Rattle.stack_code.specs.Code.{Placed, FunctionCode}
-use Rattle.stack_code.specs.Blocks.{function_of, is_kept, blocks_nest}
+use Rattle.stack_code.specs.Blocks.{is_kept, blocks_nest}
 use Rattle.c_compile.specs.Asm.{Laid, ◌⨾◌}
 use Rattle.c_compile.specs.ExprCode.{Shape}
 use Rattle.c_compile.specs.Variables.{slots_from}
@@ -35,7 +34,9 @@ use Rattle.c_compile.proofs.Making.{words_both}
 -- ---- the body
 
 module _ (sh : Shape) {a b c d e : Body} where
-  pub body_written : (s : PStmt) (line end : ℕ) → steps_of a ≡ [] → blocks_of a ≡ [] → end ≡ end_of_stmt sh s 1 → Wrote a b (λ blocks. put blocks (instr.Line line)) → steps_of c ≡ after (steps_of b) (body_of_stmt sh s (record { breaks = end; continues = end }) (blocks_of b)) → blocks_of c ≡ inside_of_stmt sh s (blocks_of b) → Wrote c d (λ blocks. put blocks (instr.Push 0)) → Wrote d e (λ blocks. put blocks instr.Return) → steps_of e ≡ body_code sh (stmt_code sh s) line 0
+  pub body_written : (s : PStmt) (line end : ℕ) → steps_of a ≡ [] → blocks_of a ≡ [] → end ≡ end_of_stmt sh s 1 → Wrote a b (λ blocks. put blocks (instr.Line line))
+      → steps_of c ≡ after (steps_of b) (body_of_stmt sh s (record { breaks = end; continues = end }) (blocks_of b)) → blocks_of c ≡ inside_of_stmt sh s (blocks_of b)
+      → Wrote c d (λ blocks. put blocks (instr.Push 0)) → Wrote d e (λ blocks. put blocks instr.Return) → steps_of e ≡ body_code sh (stmt_code sh s) line 0
   unfolding after body_of_stmt inside_of_stmt end_of_stmt
   body_written s line end none outside at h1 h2 g2 h3 h4 =
       let code = stmt_code sh s in
@@ -55,7 +56,8 @@ module _ (sh : Shape) {a b c d e : Body} where
 
 -- a block that stays open
 module _ (sh : Shape) where
-  block_steps : (locals : List Start) (list : List PStmt) (line : ℕ) (exits : Exits) (blocks : Blocks) → code_of_inside sh locals list exits (map (λ x. x.slot) locals ∷ blocks) ≡ body_of_stmt sh (Block locals list line) exits blocks
+  block_steps : (locals : List Start) (list : List PStmt) (line : ℕ) (exits : Exits) (blocks : Blocks)
+      → code_of_inside sh locals list exits (map (λ x. x.slot) locals ∷ blocks) ≡ body_of_stmt sh (Block locals list line) exits blocks
   unfolding code_of_inside body_of_stmt
   block_steps locals list line exits blocks = sym (ap (λ c. c.body exits blocks) (stmt_is sh (Block locals list line) (PStmt-F.Block locals list line) (rolls-Block locals list line)))
 
@@ -64,7 +66,8 @@ module _ (sh : Shape) where
   block_inside locals list line blocks = sym (ap (λ c. c.inside blocks) (stmt_is sh (Block locals list line) (PStmt-F.Block locals list line) (rolls-Block locals list line)))
 
 module _ (sh : Shape) {a b c : Body} where
-  pub outermost_steps : (s : PStmt) (locals : List Start) (list : List PStmt) (line : ℕ) (exits : Exits) (slots : List ℕ) → s ≡ Block locals list line → slots ≡ map (λ x. x.slot) locals → Opened a b slots → Wrote b c (code_of_inside sh locals list exits) → steps_of c ≡ after (steps_of a) (body_of_stmt sh s exits (blocks_of a))
+  pub outermost_steps : (s : PStmt) (locals : List Start) (list : List PStmt) (line : ℕ) (exits : Exits) (slots : List ℕ) → s ≡ Block locals list line → slots ≡ map (λ x. x.slot) locals
+      → Opened a b slots → Wrote b c (code_of_inside sh locals list exits) → steps_of c ≡ after (steps_of a) (body_of_stmt sh s exits (blocks_of a))
   outermost_steps s locals list line exits slots is at o w =
       w.steps
       ∙ ap (λ l. after l (code_of_inside sh locals list exits (blocks_of b))) o.steps
@@ -72,7 +75,8 @@ module _ (sh : Shape) {a b c : Body} where
       ∙ ap (after (steps_of a)) (block_steps sh locals list line exits (blocks_of a))
       ∙ ap (λ z. after (steps_of a) (body_of_stmt sh z exits (blocks_of a))) (sym is)
 
-  pub outermost_blocks : (s : PStmt) (locals : List Start) (list : List PStmt) (line : ℕ) (exits : Exits) (slots : List ℕ) → s ≡ Block locals list line → slots ≡ map (λ x. x.slot) locals → Opened a b slots → Wrote b c (code_of_inside sh locals list exits) → blocks_of c ≡ inside_of_stmt sh s (blocks_of a)
+  pub outermost_blocks : (s : PStmt) (locals : List Start) (list : List PStmt) (line : ℕ) (exits : Exits) (slots : List ℕ) → s ≡ Block locals list line → slots ≡ map (λ x. x.slot) locals
+      → Opened a b slots → Wrote b c (code_of_inside sh locals list exits) → blocks_of c ≡ inside_of_stmt sh s (blocks_of a)
   outermost_blocks s locals list line exits slots is at o w =
       w.blocks ∙ o.blocks ∙ ap (λ l. l ∷ blocks_of a) at ∙ block_inside sh locals list line (blocks_of a) ∙ ap (λ z. inside_of_stmt sh z (blocks_of a)) (sym is)
 
@@ -119,9 +123,14 @@ module _ (sh : Shape) where
 
 -- ---- the function
 
-pub function_is : (globals : List Global) (functions : List Function) (texts : List (List ℕ)) (fn : Function) (name : List ℕ) (steps : List Placed) (param_words whole param_count : ℕ) (slots : List Variable) → name ≡ fn.name → steps ≡ body_code (shape globals functions texts fn) (stmt_code (shape globals functions texts fn) fn.body) fn.line 0 → param_words ≡ words_of words_of_slot fn.params → whole ≡ frame_words fn → param_count ≡ length fn.params → slots ≡ slots_from 0 (slots_of fn) → let f : FunctionCode = record { name = name; steps = steps; line = fn.line; param_words = param_words; frame_words = whole; param_count = param_count; slots = slots } in f ≡ function_code globals functions texts fn
+pub function_is : (globals : List Global) (functions : List Function) (texts : List (List ℕ)) (fn : Function) (name : List ℕ) (steps : List Placed) (param_words whole param_count : ℕ)
+    (slots : List Variable) → name ≡ fn.name → steps ≡ body_code (shape globals functions texts fn) (stmt_code (shape globals functions texts fn) fn.body) fn.line 0
+    → param_words ≡ words_of words_of_slot fn.params → whole ≡ frame_words fn → param_count ≡ length fn.params → slots ≡ slots_from 0 (slots_of fn)
+    → let f : FunctionCode = record { name = name; steps = steps; line = fn.line; param_words = param_words; frame_words = whole; param_count = param_count; slots = slots } in f ≡ function_code
+    globals functions texts fn
 function_is globals functions texts fn name steps param_words whole param_count slots e1 e2 e3 e4 e5 e6 =
-    let F : List ℕ → List Placed → ℕ → ℕ → ℕ → List Variable → FunctionCode = λ a b c d e f. record { name = a; steps = b; line = fn.line; param_words = c; frame_words = d; param_count = e; slots = f } in
+    let F : List ℕ → List Placed → ℕ → ℕ → ℕ → List Variable → FunctionCode = λ a b c d e f. record
+    { name = a; steps = b; line = fn.line; param_words = c; frame_words = d; param_count = e; slots = f } in
     let body = body_code (shape globals functions texts fn) (stmt_code (shape globals functions texts fn) fn.body) fn.line 0 in
     ap (λ x. F x steps param_words whole param_count slots) e1
     ∙ ap (λ x. F fn.name x param_words whole param_count slots) e2
@@ -130,7 +139,8 @@ function_is globals functions texts fn name steps param_words whole param_count 
     ∙ ap (λ x. F fn.name body (words_of words_of_slot fn.params) (frame_words fn) x slots) e5
     ∙ ap (λ x. F fn.name body (words_of words_of_slot fn.params) (frame_words fn) (length fn.params) x) e6
 
-pub frame_is : (fn : Function) (params locals whole : ℕ) → params ≡ words_of words_of_slot fn.params → locals ≡ words_of words_of_slot fn.locals → whole ≡ params + locals → whole ≡ words_of words_of_slot (slots_of fn)
+pub frame_is : (fn : Function) (params locals whole : ℕ) → params ≡ words_of words_of_slot fn.params → locals ≡ words_of words_of_slot fn.locals → whole ≡ params + locals
+    → whole ≡ words_of words_of_slot (slots_of fn)
 frame_is fn params locals whole p l w = let b = words_both fn.params fn.locals in omega (arith, p, l, w, b)
 
 both_hold : (a b : Bool) → a ≡ true → b ≡ true → (a && b) ≡ true
@@ -147,5 +157,7 @@ function_kept b f fine e1 e2 e3 =
     let long : (length b.inside.items == length b.instrs.items) ≡ true = eq-eqb (length b.inside.items) (length b.instrs.items) fine.long in
     let known = all_known b.inside.items (length b.blocks.items) fine.known in
     let nest : blocks_nest 0 b.blocks.items ≡ true = fine.nest in
-    let all = both_hold (length b.inside.items == length b.instrs.items && list_all (λ n. nat_le n (length b.blocks.items)) b.inside.items) (blocks_nest 0 b.blocks.items) (both_hold (length b.inside.items == length b.instrs.items) (list_all (λ n. nat_le n (length b.blocks.items)) b.inside.items) long known) nest in
-    ap (λ l. is_kept (record f { instrs = l })) e1 ∙ ap (λ l. is_kept (record f { instrs = b.instrs; inside = l })) e2 ∙ ap (λ l. is_kept (record f { instrs = b.instrs; inside = b.inside; blocks = l })) e3 ∙ all
+    let all = both_hold (length b.inside.items == length b.instrs.items && list_all (λ n. nat_le n (length b.blocks.items)) b.inside.items) (blocks_nest 0 b.blocks.items)
+    (both_hold (length b.inside.items == length b.instrs.items) (list_all (λ n. nat_le n (length b.blocks.items)) b.inside.items) long known) nest in
+    ap (λ l. is_kept (record f { instrs = l })) e1 ∙ ap (λ l. is_kept (record f { instrs = b.instrs; inside = l })) e2
+    ∙ ap (λ l. is_kept (record f { instrs = b.instrs; inside = b.inside; blocks = l })) e3 ∙ all

@@ -1,12 +1,11 @@
 -- Lists that are made item by item.
-use Rattle.std.proofs.Common.{◌≡◌, ℕ, zero, suc, ◌+◌, ◌-◌, ◌<◌, true, List, [], ◌∷◌, ◌++◌, length, take, drop, get_or, replicate, lit<, refl, sym, ap, ◌∙◌, arith, append_assoc}
+use Rattle.std.proofs.Common.{◌≡◌, ℕ, zero, suc, ◌+◌, ◌-◌, ◌<◌, true, List, [], ◌∷◌, ◌++◌, length, take, drop, get_or, replicate, lit<, sym, ap, ◌∙◌, arith, append_assoc}
 use Rattle.std.specs.Prelude.{◌&&◌, nat_lt, nat_le}
 use Rattle.std.specs.List.{list_all}
 use Rattle.std.specs.Str.{IsAscii, IsUtf8}
 use Rattle.std.proofs.lemmas.Bool.{ltb-true}
 use Rattle.std.proofs.lemmas.List.{append-nil}
 use Rattle.std.proofs.lemmas.Str.{IsUtf8-from_ascii}
-use Rattle.nm_base.specs.declared.operator.Ctype.{Ctype}
 use Rattle.c_tree.specs.declared.program.Global.{Global}
 use Rattle.c_tree.specs.declared.program.Slot.{Slot}
 use Rattle.c_tree.specs.Storage.{words_of, words_of_global, words_of_slot, first_words}
@@ -17,7 +16,9 @@ use Rattle.c_compile.proofs.Parts.{both_true}
 use Rattle.c_compile.proofs.Tables.{take_all}
 use Rattle.c_compile.proofs.Writing.{drops, drop_all}
 
-pub globals_more : (xs : List Global) (i place next : ℕ) (made more : List Variable) (x : Global) (name : List ℕ) → i < length xs → x ≡ get_or xs i x → name ≡ x.name → more ≡ made ++ record (variable_of_global place x) { name = name } ∷ [] → next ≡ place + words_of_global x → made ++ globals_from place (drop i xs) ≡ globals_from 0 xs → more ++ globals_from next (drop (i + 1) xs) ≡ globals_from 0 xs
+pub globals_more : (xs : List Global) (i place next : ℕ) (made more : List Variable) (x : Global) (name : List ℕ) → i < length xs → x ≡ get_or xs i x → name ≡ x.name
+    → more ≡ made ++ record (variable_of_global place x) { name = name } ∷ [] → next ≡ place + words_of_global x → made ++ globals_from place (drop i xs) ≡ globals_from 0 xs
+    → more ++ globals_from next (drop (i + 1) xs) ≡ globals_from 0 xs
 globals_more xs i place next made more x name lt is named e at inv =
     let rest = globals_from (place + words_of_global x) (drop (i + 1) xs) in
     ap (λ n. more ++ globals_from n (drop (i + 1) xs)) at
@@ -30,7 +31,9 @@ pub globals_end : (xs : List Global) (i place : ℕ) (made : List Variable) → 
 globals_end xs i place made e inv =
     sym (append-nil made) ∙ ap (λ l. made ++ globals_from place l) (sym (drop_all xs)) ∙ ap (λ n. made ++ globals_from place (drop n xs)) (sym e) ∙ inv
 
-pub slots_more : (xs : List Slot) (i place next : ℕ) (made more whole : List Variable) (x : Slot) (name : List ℕ) → i < length xs → x ≡ get_or xs i x → name ≡ x.name → more ≡ made ++ record (variable_of_slot place x) { name = name } ∷ [] → next ≡ place + words_of_slot x → made ++ slots_from place (drop i xs) ≡ whole → more ++ slots_from next (drop (i + 1) xs) ≡ whole
+pub slots_more : (xs : List Slot) (i place next : ℕ) (made more whole : List Variable) (x : Slot) (name : List ℕ) → i < length xs → x ≡ get_or xs i x → name ≡ x.name
+    → more ≡ made ++ record (variable_of_slot place x) { name = name } ∷ [] → next ≡ place + words_of_slot x → made ++ slots_from place (drop i xs) ≡ whole
+    → more ++ slots_from next (drop (i + 1) xs) ≡ whole
 slots_more xs i place next made more whole x name lt is named e at inv =
     let rest = slots_from (place + words_of_slot x) (drop (i + 1) xs) in
     ap (λ n. more ++ slots_from n (drop (i + 1) xs)) at
@@ -43,7 +46,8 @@ pub slots_end : (xs : List Slot) (i place : ℕ) (made whole : List Variable) �
 slots_end xs i place made whole e inv =
     sym (append-nil made) ∙ ap (λ l. made ++ slots_from place l) (sym (drop_all xs)) ∙ ap (λ n. made ++ slots_from place (drop n xs)) (sym e) ∙ inv
 
-pub words_more : {A : Type 0} (size : A → ℕ) (xs : List A) (i words next whole : ℕ) (x : A) → i < length xs → x ≡ get_or xs i x → next ≡ words + size x → words + words_of size (drop i xs) ≡ whole → next + words_of size (drop (i + 1) xs) ≡ whole
+pub words_more : {A : Type 0} (size : A → ℕ) (xs : List A) (i words next whole : ℕ) (x : A) → i < length xs → x ≡ get_or xs i x → next ≡ words + size x → words + words_of size (drop i xs) ≡ whole
+    → next + words_of size (drop (i + 1) xs) ≡ whole
 words_more size xs i words next whole x lt is at inv =
     let d = ap (words_of size) (drops xs i x lt is) in
     omega (arith, d, at, inv)
@@ -53,7 +57,8 @@ words_end size xs i words whole e inv =
     let d = ap (λ n. words_of size (drop n xs)) e ∙ ap (words_of size) (drop_all xs) in
     omega (arith, d, inv)
 
-pub words_fit : {A : Type 0} (size : A → ℕ) (xs : List A) (i words n whole limit : ℕ) (x : A) → i < length xs → x ≡ get_or xs i x → n ≡ size x → words + words_of size (drop i xs) ≡ whole → whole < limit → words + n < limit
+pub words_fit : {A : Type 0} (size : A → ℕ) (xs : List A) (i words n whole limit : ℕ) (x : A) → i < length xs → x ≡ get_or xs i x → n ≡ size x → words + words_of size (drop i xs) ≡ whole
+    → whole < limit → words + n < limit
 words_fit size xs i words n whole limit x lt is at inv h =
     let d = ap (words_of size) (drops xs i x lt is) in
     omega (arith, d, at, inv, h)
@@ -69,13 +74,15 @@ pub words_both : (xs ys : List Slot) → words_of words_of_slot (xs ++ ys) ≡ w
 words_both [] ys = omega arith
 words_both (x ∷ xs) ys = let r = words_both xs ys in omega (arith, r)
 
-pub all_slots : (xs ys : List Slot) (none first all : List Variable) (middle : ℕ) → none ≡ [] → middle ≡ 0 + words_of words_of_slot xs → first ≡ none ++ slots_from 0 xs → all ≡ first ++ slots_from middle ys → all ≡ slots_from 0 (xs ++ ys)
+pub all_slots : (xs ys : List Slot) (none first all : List Variable) (middle : ℕ) → none ≡ [] → middle ≡ 0 + words_of words_of_slot xs → first ≡ none ++ slots_from 0 xs
+    → all ≡ first ++ slots_from middle ys → all ≡ slots_from 0 (xs ++ ys)
 all_slots xs ys none first all middle n m f a =
     a ∙ ap (λ k. first ++ slots_from k ys) m ∙ ap (λ l. l ++ slots_from (0 + words_of words_of_slot xs) ys) (f ∙ ap (λ l. l ++ slots_from 0 xs) n) ∙ sym (slots_both 0 xs ys)
 
 -- ---- the words of globals
 
-pub first_more : (xs : List Global) (i : ℕ) (made more : List ℕ) (x : Global) (count : ℕ) → i < length xs → x ≡ get_or xs i x → count ≡ words_of_global x → more ≡ made ++ replicate count x.start → made ++ first_words (drop i xs) ≡ first_words xs → more ++ first_words (drop (i + 1) xs) ≡ first_words xs
+pub first_more : (xs : List Global) (i : ℕ) (made more : List ℕ) (x : Global) (count : ℕ) → i < length xs → x ≡ get_or xs i x → count ≡ words_of_global x → more ≡ made ++ replicate count x.start
+    → made ++ first_words (drop i xs) ≡ first_words xs → more ++ first_words (drop (i + 1) xs) ≡ first_words xs
 first_more xs i made more x count lt is at e inv =
     let rest = first_words (drop (i + 1) xs) in
     ap (λ l. l ++ rest) (e ∙ ap (λ n. made ++ replicate n x.start) at)
@@ -94,7 +101,8 @@ repeated made more word count len end l at e =
 
 -- ---- copies
 
-pub copies_more : {A : Type 0} (xs : List A) (i : ℕ) (made more : List A) (x copy : A) → i < length xs → x ≡ get_or xs i x → copy ≡ x → more ≡ made ++ copy ∷ [] → made ++ drop i xs ≡ xs → more ++ drop (i + 1) xs ≡ xs
+pub copies_more : {A : Type 0} (xs : List A) (i : ℕ) (made more : List A) (x copy : A) → i < length xs → x ≡ get_or xs i x → copy ≡ x → more ≡ made ++ copy ∷ [] → made ++ drop i xs ≡ xs
+    → more ++ drop (i + 1) xs ≡ xs
 copies_more xs i made more x copy lt is same e inv =
     ap (λ l. l ++ drop (i + 1) xs) (e ∙ ap (λ y. made ++ y ∷ []) same)
     ∙ append_assoc made (x ∷ []) (drop (i + 1) xs)

@@ -1,5 +1,5 @@
 -- What the code of a program tells of names.
-use Rattle.std.proofs.Common.{◌≡◌, ℕ, zero, suc, ◌+◌, ◌<◌, ◌≤◌, Bool, true, false, List, [], ◌∷◌, ◌++◌, map, length, take, Option, Some, None, refl, sym, ap, ◌∙◌, subst, arith}
+use Rattle.std.proofs.Common.{◌≡◌, ℕ, zero, suc, ◌+◌, ◌<◌, Bool, true, false, List, [], ◌∷◌, ◌++◌, map, length, take, Option, Some, None, refl, sym, ap, ◌∙◌, subst, arith}
 use Rattle.std.specs.Prelude.{slice_get, option_map, if◌then◌else◌}
 use Rattle.std.specs.Str.{bytes_eq}
 use Rattle.std.proofs.lemmas.Slice.Eq.{bytes_eq-Decides}
@@ -80,16 +80,20 @@ module _ (globals : List Global) (slots : List Slot) where
     globals_told : (number place : ℕ) (xs : List Global) → GlobalsAt number place xs → IsTold (option_map as_global (first_named name (globals_from place xs))) (in_globals name number xs)
     globals_told number place [] h = tt
     globals_told number place (x ∷ xs) h =
-        subst (λ t. IsTold (option_map as_global (elim t [ true ↦ Some (variable_of_global place x) | false ↦ first_named name (globals_from (place + words_of_global x) xs) ])) (in_globals name number (x ∷ xs))) (same_names name x.name) (by (bytes_eq name x.name) (globals_told (number + 1) (place + words_of_global x) xs (globals_later number place x xs h)))
+        subst (λ t. IsTold (option_map as_global (elim t [ true ↦ Some (variable_of_global place x) | false ↦ first_named name (globals_from (place + words_of_global x) xs) ]))
+        (in_globals name number (x ∷ xs))) (same_names name x.name) (by (bytes_eq name x.name) (globals_told (number + 1) (place + words_of_global x) xs (globals_later number place x xs h)))
       where
-        by : (t : Bool) → IsTold (option_map as_global (first_named name (globals_from (place + words_of_global x) xs))) (in_globals name (number + 1) xs) → IsTold (option_map as_global (elim t [ true ↦ Some (variable_of_global place x) | false ↦ first_named name (globals_from (place + words_of_global x) xs) ])) (if t then Some (record { what = AGlobal number; of = x.of }) else in_globals name (number + 1) xs)
+        by : (t : Bool) → IsTold (option_map as_global (first_named name (globals_from (place + words_of_global x) xs))) (in_globals name (number + 1) xs)
+            → IsTold (option_map as_global (elim t [ true ↦ Some (variable_of_global place x) | false ↦ first_named name (globals_from (place + words_of_global x) xs) ]))
+            (if t then Some (record { what = AGlobal number; of = x.of }) else in_globals name (number + 1) xs)
         by true later = global_here number place x xs h
         by false later = later
 
     -- ---- parameters
 
     abbrev SlotsAt : ℕ → ℕ → List Slot → Type 0
-    SlotsAt number place xs = (k : ℕ) (of : Ctype) → k < length xs → found_of globals slots (ASlot (number + k)) of ≡ option_map (told.as_slot (place + words_before words_of_slot xs k) of) (slice_get xs k)
+    SlotsAt number place xs = (k : ℕ) (of : Ctype) → k < length xs → found_of globals slots (ASlot (number + k)) of ≡ option_map (told.as_slot (place + words_before words_of_slot xs k) of)
+        (slice_get xs k)
 
     slots_later : (number place : ℕ) (x : Slot) (xs : List Slot) → SlotsAt number place (x ∷ xs) → SlotsAt (number + 1) (place + words_of_slot x) xs
     slots_later number place x xs h k of lt =
@@ -106,9 +110,12 @@ module _ (globals : List Global) (slots : List Slot) where
     params_told : (number place : ℕ) (xs : List Slot) → SlotsAt number place xs → IsTold (option_map as_local (first_named name (slots_from place xs))) (in_params name number xs)
     params_told number place [] h = tt
     params_told number place (x ∷ xs) h =
-        subst (λ t. IsTold (option_map as_local (elim t [ true ↦ Some (variable_of_slot place x) | false ↦ first_named name (slots_from (place + words_of_slot x) xs) ])) (in_params name number (x ∷ xs))) (same_names name x.name) (by (bytes_eq name x.name) (params_told (number + 1) (place + words_of_slot x) xs (slots_later number place x xs h)))
+        subst (λ t. IsTold (option_map as_local (elim t [ true ↦ Some (variable_of_slot place x) | false ↦ first_named name (slots_from (place + words_of_slot x) xs) ]))
+        (in_params name number (x ∷ xs))) (same_names name x.name) (by (bytes_eq name x.name) (params_told (number + 1) (place + words_of_slot x) xs (slots_later number place x xs h)))
       where
-        by : (t : Bool) → IsTold (option_map as_local (first_named name (slots_from (place + words_of_slot x) xs))) (in_params name (number + 1) xs) → IsTold (option_map as_local (elim t [ true ↦ Some (variable_of_slot place x) | false ↦ first_named name (slots_from (place + words_of_slot x) xs) ])) (meaning.or_else (if t then Some (record { what = ASlot number; of = x.of }) else None) (in_params name (number + 1) xs))
+        by : (t : Bool) → IsTold (option_map as_local (first_named name (slots_from (place + words_of_slot x) xs))) (in_params name (number + 1) xs)
+            → IsTold (option_map as_local (elim t [ true ↦ Some (variable_of_slot place x) | false ↦ first_named name (slots_from (place + words_of_slot x) xs) ]))
+            (meaning.or_else (if t then Some (record { what = ASlot number; of = x.of }) else None) (in_params name (number + 1) xs))
         by true later = slot_here number place x xs h
         by false later = later
 
@@ -122,12 +129,16 @@ module _ (globals : List Global) (slots : List Slot) where
         kept_at (place + words_of_slot x) xs i ∙ ap (λ n. option_map (variable_of_slot n) (slice_get xs i)) w
 
     -- a block's local, by what stands at its number
-    local_by : (i : ℕ) (rest : Option Kept) (later : Option Variable) (o : Option Slot) → slice_get slots i ≡ o → IsTold (option_map as_local rest) later → let y = option_map (variable_of_slot (words_before words_of_slot slots i)) o in IsTold (option_map as_local (elim (seek.is_named name y) [ true ↦ y | false ↦ rest ])) (meaning.or_else (slot_if name i o) later)
+    local_by : (i : ℕ) (rest : Option Kept) (later : Option Variable) (o : Option Slot) → slice_get slots i ≡ o → IsTold (option_map as_local rest) later
+        → let y = option_map (variable_of_slot (words_before words_of_slot slots i)) o in IsTold (option_map as_local (elim (seek.is_named name y) [ true ↦ y | false ↦ rest ]))
+        (meaning.or_else (slot_if name i o) later)
     local_by i rest later None is h = h
     local_by i rest later (Some x) is h =
-        subst (λ t. IsTold (option_map as_local (elim t [ true ↦ Some (variable_of_slot (words_before words_of_slot slots i) x) | false ↦ rest ])) (meaning.or_else (slot_if name i (Some x)) later)) (same_names name x.name) (by (bytes_eq name x.name))
+        subst (λ t. IsTold (option_map as_local (elim t [ true ↦ Some (variable_of_slot (words_before words_of_slot slots i) x) | false ↦ rest ]))
+        (meaning.or_else (slot_if name i (Some x)) later)) (same_names name x.name) (by (bytes_eq name x.name))
       where
-        by : (t : Bool) → IsTold (option_map as_local (elim t [ true ↦ Some (variable_of_slot (words_before words_of_slot slots i) x) | false ↦ rest ])) (meaning.or_else (if t then Some (record { what = ASlot i; of = x.of }) else None) later)
+        by : (t : Bool) → IsTold (option_map as_local (elim t [ true ↦ Some (variable_of_slot (words_before words_of_slot slots i) x) | false ↦ rest ]))
+            (meaning.or_else (if t then Some (record { what = ASlot i; of = x.of }) else None) later)
         by true = sym (ap (option_map (told.as_slot (words_before words_of_slot slots i) x.of)) is)
         by false = h
 
@@ -136,7 +147,8 @@ module _ (globals : List Global) (slots : List Slot) where
     block_told (i ∷ is) =
         let z : 0 + words_before words_of_slot slots i ≡ words_before words_of_slot slots i = omega arith in
         let at = kept_at 0 slots i ∙ ap (λ n. option_map (variable_of_slot n) (slice_get slots i)) z in
-        subst (λ y. IsTold (option_map as_local (elim (seek.is_named name y) [ true ↦ y | false ↦ seek.in_block name (slots_from 0 slots) is ])) (meaning.in_block slots name (i ∷ is))) (sym at) (local_by i (seek.in_block name (slots_from 0 slots) is) (meaning.in_block slots name is) (slice_get slots i) refl (block_told is))
+        subst (λ y. IsTold (option_map as_local (elim (seek.is_named name y) [ true ↦ y | false ↦ seek.in_block name (slots_from 0 slots) is ])) (meaning.in_block slots name (i ∷ is))) (sym at)
+        (local_by i (seek.in_block name (slots_from 0 slots) is) (meaning.in_block slots name is) (slice_get slots i) refl (block_told is))
 
     first_of_both : (y rest : Option Kept) → option_map as_local (elim y [ Some x ↦ Some x | None ↦ rest ]) ≡ seek.or_else (option_map as_local y) (option_map as_local rest)
     first_of_both None rest = refl
@@ -147,7 +159,8 @@ module _ (globals : List Global) (slots : List Slot) where
     blocks_told (b ∷ bs) =
         let y = seek.in_block name (slots_from 0 slots) b in
         let rest = seek.in_blocks name (slots_from 0 slots) bs in
-        subst (λ f. IsTold f (meaning.in_blocks slots name (b ∷ bs))) (sym (first_of_both y rest)) (told_or (option_map as_local y) (option_map as_local rest) (meaning.in_block slots name b) (meaning.in_blocks slots name bs) (block_told b) (blocks_told bs))
+        subst (λ f. IsTold f (meaning.in_blocks slots name (b ∷ bs))) (sym (first_of_both y rest))
+        (told_or (option_map as_local y) (option_map as_local rest) (meaning.in_block slots name b) (meaning.in_blocks slots name bs) (block_told b) (blocks_told bs))
 
     all_globals : IsTold (option_map as_global (first_named name (globals_from 0 globals))) (in_globals name 0 globals)
     all_globals =
@@ -179,16 +192,23 @@ module _ (globals : List Global) (functions : List Function) (texts : List (List
       ∙ ap (λ n. option_map (told.as_slot n of) (slice_get (slots_of f) k)) w
       ∙ ap (option_map (told.as_slot (0 + words_before words_of_slot f.params k) of)) (get_left f.params f.locals k lt)
 
-  function_told : (f : Function) (entered : List (List ℕ)) (name : List ℕ) → IsTold globals (slots_of f) (seek.or_else (option_map as_local (seek.in_blocks name (code_of f).slots entered)) (option_map as_local (first_named name (take (length f.params) (code_of f).slots)))) (in_function name entered (Some f))
+  function_told : (f : Function) (entered : List (List ℕ)) (name : List ℕ)
+      → IsTold globals (slots_of f) (seek.or_else (option_map as_local (seek.in_blocks name (code_of f).slots entered))
+      (option_map as_local (first_named name (take (length f.params) (code_of f).slots)))) (in_function name entered (Some f))
   function_told f entered name =
-      let params = subst (λ l. IsTold globals (slots_of f) (option_map as_local (first_named name l)) (in_params name 0 f.params)) (sym (take_params 0 f.params f.locals)) (params_told globals (slots_of f) name 0 0 f.params (params_at f name)) in
-      told_or globals (slots_of f) (option_map as_local (seek.in_blocks name (code_of f).slots entered)) (option_map as_local (first_named name (take (length f.params) (code_of f).slots))) (meaning.in_blocks (slots_of f) name entered) (in_params name 0 f.params) (blocks_told globals (slots_of f) name entered) params
+      let params = subst (λ l. IsTold globals (slots_of f) (option_map as_local (first_named name l)) (in_params name 0 f.params)) (sym (take_params 0 f.params f.locals))
+      (params_told globals (slots_of f) name 0 0 f.params (params_at f name)) in
+      told_or globals (slots_of f) (option_map as_local (seek.in_blocks name (code_of f).slots entered)) (option_map as_local (first_named name (take (length f.params) (code_of f).slots)))
+      (meaning.in_blocks (slots_of f) name entered) (in_params name 0 f.params) (blocks_told globals (slots_of f) name entered) params
 
-  by_function : (o : Option Function) (place : ℕ) (name : List ℕ) → IsTold globals (slots_of_function o) (seek.or_else (told_by (option_map code_of o) place name) (option_map as_global (first_named name (globals_from 0 globals)))) (meaning.or_else (in_function name (entered_by (slice_get (steps_by (option_map code_of o)) place)) o) (in_globals name 0 globals))
+  by_function : (o : Option Function) (place : ℕ) (name : List ℕ)
+      → IsTold globals (slots_of_function o) (seek.or_else (told_by (option_map code_of o) place name) (option_map as_global (first_named name (globals_from 0 globals))))
+      (meaning.or_else (in_function name (entered_by (slice_get (steps_by (option_map code_of o)) place)) o) (in_globals name 0 globals))
   by_function None place name = all_globals globals [] name
   by_function (Some f) place name =
       let entered = entered_by (slice_get (code_of f).steps place) in
-      told_or globals (slots_of f) (found_in (code_of f) place name) (option_map as_global (first_named name (globals_from 0 globals))) (in_function name entered (Some f)) (in_globals name 0 globals) (function_told f entered name) (all_globals globals (slots_of f) name)
+      told_or globals (slots_of f) (found_in (code_of f) place name) (option_map as_global (first_named name (globals_from 0 globals))) (in_function name entered (Some f))
+      (in_globals name 0 globals) (function_told f entered name) (all_globals globals (slots_of f) name)
 
   get_map : {A B : Type 0} (f : A → B) (xs : List A) (i : ℕ) → slice_get (map f xs) i ≡ option_map f (slice_get xs i)
   get_map f [] i = refl
@@ -207,12 +227,14 @@ module _ (globals : List Global) (functions : List Function) (texts : List (List
     abbrev whole : Code
     whole = program_code globals functions texts main
 
-    locals_told : (at : CodePlace) (name : List ℕ) → found whole (Some at) name ≡ found_by globals (slots_of_function (slice_get functions at.function)) (meaning.or_else (in_function name (entered_at whole at.function at.place) (slice_get functions at.function)) (in_globals name 0 globals))
+    locals_told : (at : CodePlace) (name : List ℕ) → found whole (Some at) name ≡ found_by globals (slots_of_function (slice_get functions at.function))
+        (meaning.or_else (in_function name (entered_at whole at.function at.place) (slice_get functions at.function)) (in_globals name 0 globals))
     locals_told at name =
         let o = slice_get functions at.function in
         let e = get_map code_of functions at.function in
         ap (λ p. seek.or_else (told_by p at.place name) (option_map as_global (first_named name (globals_from 0 globals)))) e
-        ∙ told_is globals (slots_of_function o) (seek.or_else (told_by (option_map code_of o) at.place name) (option_map as_global (first_named name (globals_from 0 globals)))) (meaning.or_else (in_function name (entered_by (slice_get (steps_by (option_map code_of o)) at.place)) o) (in_globals name 0 globals)) (by_function o at.place name)
+        ∙ told_is globals (slots_of_function o) (seek.or_else (told_by (option_map code_of o) at.place name) (option_map as_global (first_named name (globals_from 0 globals))))
+        (meaning.or_else (in_function name (entered_by (slice_get (steps_by (option_map code_of o)) at.place)) o) (in_globals name 0 globals)) (by_function o at.place name)
         ∙ ap (λ p. found_by globals (slots_of_function o) (meaning.or_else (in_function name (entered_by (slice_get (steps_by p) at.place)) o) (in_globals name 0 globals))) (sym e)
 
 -- the code of a program tells its names
@@ -220,7 +242,8 @@ pub tells_names : (p : Program) (code : Code) → code ≡ program_code p.global
 tells_names p code same =
     subst (TellsNames p) (sym same) (record {
       functions = names_kept p.globals p.functions p.texts p.functions;
-      main_line = ap (option_map (λ f. f.line)) (get_map p.globals p.functions p.texts (function_code p.globals p.functions p.texts) p.functions p.main) ∙ line_kept p.globals p.functions p.texts (slice_get p.functions p.main);
+      main_line = ap (option_map (λ f. f.line)) (get_map p.globals p.functions p.texts (function_code p.globals p.functions p.texts) p.functions p.main)
+          ∙ line_kept p.globals p.functions p.texts (slice_get p.functions p.main);
       globals = λ name. told_is p.globals [] (option_map as_global (first_named name (globals_from 0 p.globals))) (in_globals name 0 p.globals) (all_globals p.globals [] name);
       locals = locals_told p.globals p.functions p.texts p.main;
     })

@@ -1,5 +1,5 @@
 -- The parts of statements, as they are written.
-use Rattle.std.proofs.Common.{◌≡◌, ℕ, ◌+◌, ◌<◌, Bool, true, false, List, [], ◌∷◌, ◌++◌, append_assoc, map, length, drop, get_or, Option, Some, None, Result, refl, sym, ap, ◌∙◌, subst}
+use Rattle.std.proofs.Common.{◌≡◌, ℕ, ◌+◌, ◌<◌, true, false, List, [], ◌∷◌, ◌++◌, append_assoc, map, length, drop, get_or, Option, Some, None, Result, refl, sym, ap, ◌∙◌, subst}
 use Rattle.std.specs.Prelude.{OnOk, slice_get}
 use Rattle.std.specs.List.{list_any}
 use Rattle.std.proofs.lemmas.List.{drop_more, append-nil}
@@ -15,7 +15,6 @@ use Rattle.c_tree.specs.Stmt.{is_default}
 use Rattle.stack_code.specs.declared.instr.Instr.TheVariants as instr
 use Rattle.c_compile.specs.Asm.{Laid, nothing, ◌⨾◌}
 use Rattle.c_compile.specs.ExprCode.{Shape}
-use Rattle.c_compile.specs.StmtCode as spec
 use Rattle.c_compile.specs.StmtCode.{Blocks, put, effect_code, test_code, returned, zero_by, start_by, case_code, arm_code, place_of_label}
 use Rattle.c_compile.specs.Emitted.{value_of, code_of_value, code_of_zeros, code_of_starts, code_of_labels, code_of_cases, end_of_list, default_place_of}
 use Rattle.c_compile.specs.declared.body.Body.{Body}
@@ -51,22 +50,30 @@ module _ (sh : Shape) {a b c : Body} where
   unfolding code_of_value value_of
   effect_some o e is h g = subst (λ p. Wrote a c (λ blocks. effect_code sh p blocks)) (sym is) (wrote_both h g)
 
-  pub test_some : (o : Option PExpr) (exit : ℕ) (e : PExpr) → o ≡ Some e → Wrote a b (code_of_value sh e) → Wrote b c (λ blocks. put blocks (instr.JumpZero exit)) → Wrote a c (λ blocks. test_code sh o exit blocks)
+  pub test_some : (o : Option PExpr) (exit : ℕ) (e : PExpr) → o ≡ Some e → Wrote a b (code_of_value sh e) → Wrote b c (λ blocks. put blocks (instr.JumpZero exit))
+      → Wrote a c (λ blocks. test_code sh o exit blocks)
   unfolding code_of_value value_of
   test_some o exit e is h g = subst (λ p. Wrote a c (λ blocks. test_code sh p exit blocks)) (sym is) (wrote_both h g)
 
-  pub start_some : {d e f g : Body} (slot line : ℕ) (o : Option PExpr) (x : PExpr) (place : ℕ) → o ≡ Some x → place ≡ words_before words_of_slot sh.slots slot → Wrote a b (λ blocks. put blocks (instr.Line line)) → Wrote b c (code_of_value sh x) → Wrote c d (λ blocks. put blocks (instr.LocalPlace place)) → Wrote d e (λ blocks. put blocks instr.Swap) → Wrote e f (λ blocks. put blocks instr.Store) → Wrote f g (λ blocks. put blocks instr.Drop) → Wrote a g (λ blocks. start_by sh slot line o blocks)
+  pub start_some : {d e f g : Body} (slot line : ℕ) (o : Option PExpr) (x : PExpr) (place : ℕ) → o ≡ Some x → place ≡ words_before words_of_slot sh.slots slot
+      → Wrote a b (λ blocks. put blocks (instr.Line line)) → Wrote b c (code_of_value sh x) → Wrote c d (λ blocks. put blocks (instr.LocalPlace place))
+      → Wrote d e (λ blocks. put blocks instr.Swap) → Wrote e f (λ blocks. put blocks instr.Store) → Wrote f g (λ blocks. put blocks instr.Drop) → Wrote a g (λ blocks. start_by sh slot line o blocks)
   unfolding code_of_value value_of
   start_some {g = g} slot line o x place is at h1 h2 h3 h4 h5 h6 =
       let all = wrote_both h1 (wrote_both h2 (wrote_both h3 (wrote_both h4 (wrote_both h5 h6)))) in
-      let Q : ℕ → Blocks → Laid = λ n. λ blocks. put blocks (instr.Line line) ⨾ (code_of_value sh x blocks ⨾ (put blocks (instr.LocalPlace n) ⨾ (put blocks instr.Swap ⨾ (put blocks instr.Store ⨾ put blocks instr.Drop)))) in
+      let Q : ℕ → Blocks → Laid = λ n. λ blocks. put blocks (instr.Line line) ⨾
+      (code_of_value sh x blocks ⨾ (put blocks (instr.LocalPlace n) ⨾ (put blocks instr.Swap ⨾ (put blocks instr.Store ⨾ put blocks instr.Drop)))) in
       subst (λ p. Wrote a g (λ blocks. start_by sh slot line p blocks)) (sym is) (subst (λ n. Wrote a g (Q n)) at all)
 
-  pub case_some : {d e f g : Body} (o : Option ℕ) (target bits next place : ℕ) → o ≡ Some bits → next ≡ place + 6 → place ≡ length (steps_of a) → Wrote a b (λ blocks. put blocks instr.Dup) → Wrote b c (λ blocks. put blocks (instr.Push bits)) → Wrote c d (λ blocks. put blocks (instr.Binary Equal Int)) → Wrote d e (λ blocks. put blocks (instr.JumpZero next)) → Wrote e f (λ blocks. put blocks instr.Drop) → Wrote f g (λ blocks. put blocks (instr.Jump target)) → Wrote a g (λ blocks. case_code sh o target blocks)
+  pub case_some : {d e f g : Body} (o : Option ℕ) (target bits next place : ℕ) → o ≡ Some bits → next ≡ place + 6 → place ≡ length (steps_of a) → Wrote a b (λ blocks. put blocks instr.Dup)
+      → Wrote b c (λ blocks. put blocks (instr.Push bits)) → Wrote c d (λ blocks. put blocks (instr.Binary Equal Int)) → Wrote d e (λ blocks. put blocks (instr.JumpZero next))
+      → Wrote e f (λ blocks. put blocks instr.Drop) → Wrote f g (λ blocks. put blocks (instr.Jump target)) → Wrote a g (λ blocks. case_code sh o target blocks)
   case_some {g = g} o target bits next place is at p h1 h2 h3 h4 h5 h6 =
       let all = wrote_both h1 (wrote_both h2 (wrote_both h3 (wrote_both h4 (wrote_both h5 h6)))) in
-      let Q : ℕ → Blocks → Laid = λ n. λ blocks. put blocks instr.Dup ⨾ (put blocks (instr.Push bits) ⨾ (put blocks (instr.Binary Equal Int) ⨾ (put blocks (instr.JumpZero n) ⨾ (put blocks instr.Drop ⨾ put blocks (instr.Jump target))))) in
-      subst (λ p. Wrote a g (λ blocks. case_code sh p target blocks)) (sym is) (wrote_as (λ blocks. case_code sh (Some bits) target blocks) all (ap (λ n. Q n (blocks_of a) (length (steps_of a))) (at ∙ ap (λ n. n + 6) p)))
+      let Q : ℕ → Blocks → Laid = λ n. λ blocks. put blocks instr.Dup ⨾
+      (put blocks (instr.Push bits) ⨾ (put blocks (instr.Binary Equal Int) ⨾ (put blocks (instr.JumpZero n) ⨾ (put blocks instr.Drop ⨾ put blocks (instr.Jump target))))) in
+      subst (λ p. Wrote a g (λ blocks. case_code sh p target blocks)) (sym is)
+      (wrote_as (λ blocks. case_code sh (Some bits) target blocks) all (ap (λ n. Q n (blocks_of a) (length (steps_of a))) (at ∙ ap (λ n. n + 6) p)))
 
 -- ---- loops
 
@@ -79,7 +86,8 @@ pub drops : {A : Type 0} (xs : List A) (i : ℕ) (x : A) → i < length xs → x
 drops xs i x h is = drop_more xs i x h ∙ ap (λ y. y ∷ drop (i + 1) xs) (sym is)
 
 -- a loop that has come to its end
-pub loop_end : {A : Type 0} {a b : Body} (code : List A → Blocks → Laid) (xs : List A) (i : ℕ) → code [] ≡ (λ blocks. nothing) → i ≡ length xs → Onward a b (code (drop i xs)) (code xs) → Wrote a b (code xs)
+pub loop_end : {A : Type 0} {a b : Body} (code : List A → Blocks → Laid) (xs : List A) (i : ℕ) → code [] ≡ (λ blocks. nothing) → i ≡ length xs → Onward a b (code (drop i xs)) (code xs)
+    → Wrote a b (code xs)
 loop_end code xs i none e h = onward_end h (ap (λ n. code (drop n xs)) e ∙ ap code (drop_all xs) ∙ none)
 
 module _ (sh : Shape) where
@@ -100,19 +108,24 @@ module _ (sh : Shape) where
   cases_none start = refl
 
 module _ (sh : Shape) {a b c : Body} where
-  pub zeros_more : (xs : List Start) (i : ℕ) (x : Start) → i < length xs → x ≡ get_or xs i x → Onward a b (code_of_zeros sh (drop i xs)) (code_of_zeros sh xs) → Wrote b c (λ blocks. zero_by sh (slice_get sh.slots x.slot) (words_before words_of_slot sh.slots x.slot) blocks) → Onward a c (code_of_zeros sh (drop (i + 1) xs)) (code_of_zeros sh xs)
+  pub zeros_more : (xs : List Start) (i : ℕ) (x : Start) → i < length xs → x ≡ get_or xs i x → Onward a b (code_of_zeros sh (drop i xs)) (code_of_zeros sh xs)
+      → Wrote b c (λ blocks. zero_by sh (slice_get sh.slots x.slot) (words_before words_of_slot sh.slots x.slot) blocks) → Onward a c (code_of_zeros sh (drop (i + 1) xs)) (code_of_zeros sh xs)
   unfolding code_of_zeros
   zeros_more xs i x lt is h w = onward_more h w (ap (λ l. code_of_zeros sh l) (drops xs i x lt is))
 
-  pub starts_more : (xs : List Start) (i : ℕ) (x : Start) → i < length xs → x ≡ get_or xs i x → Onward a b (code_of_starts sh (drop i xs)) (code_of_starts sh xs) → Wrote b c (λ blocks. start_by sh x.slot x.line x.value blocks) → Onward a c (code_of_starts sh (drop (i + 1) xs)) (code_of_starts sh xs)
+  pub starts_more : (xs : List Start) (i : ℕ) (x : Start) → i < length xs → x ≡ get_or xs i x → Onward a b (code_of_starts sh (drop i xs)) (code_of_starts sh xs)
+      → Wrote b c (λ blocks. start_by sh x.slot x.line x.value blocks) → Onward a c (code_of_starts sh (drop (i + 1) xs)) (code_of_starts sh xs)
   unfolding code_of_starts
   starts_more xs i x lt is h w = onward_more h w (ap (λ l. code_of_starts sh l) (drops xs i x lt is))
 
-  pub labels_more : (xs : List PLabel) (target i : ℕ) (x : PLabel) → i < length xs → x ≡ get_or xs i x → Onward a b (code_of_labels sh (drop i xs) target) (code_of_labels sh xs target) → Wrote b c (λ blocks. case_code sh x.value target blocks) → Onward a c (code_of_labels sh (drop (i + 1) xs) target) (code_of_labels sh xs target)
+  pub labels_more : (xs : List PLabel) (target i : ℕ) (x : PLabel) → i < length xs → x ≡ get_or xs i x → Onward a b (code_of_labels sh (drop i xs) target) (code_of_labels sh xs target)
+      → Wrote b c (λ blocks. case_code sh x.value target blocks) → Onward a c (code_of_labels sh (drop (i + 1) xs) target) (code_of_labels sh xs target)
   unfolding code_of_labels
   labels_more xs target i x lt is h w = onward_more h w (ap (λ l. code_of_labels sh l target) (drops xs i x lt is))
 
-  pub cases_more : (xs : List PArm) (first i start next : ℕ) (x : PArm) → i < length xs → x ≡ get_or xs i x → next ≡ end_of_list sh x.list start → Onward a b (code_of_cases sh (drop i xs) start) (code_of_cases sh xs first) → Wrote b c (code_of_labels sh x.labels start) → Onward a c (code_of_cases sh (drop (i + 1) xs) next) (code_of_cases sh xs first)
+  pub cases_more : (xs : List PArm) (first i start next : ℕ) (x : PArm) → i < length xs → x ≡ get_or xs i x → next ≡ end_of_list sh x.list start
+      → Onward a b (code_of_cases sh (drop i xs) start) (code_of_cases sh xs first) → Wrote b c (code_of_labels sh x.labels start)
+      → Onward a c (code_of_cases sh (drop (i + 1) xs) next) (code_of_cases sh xs first)
   unfolding code_of_cases code_of_labels end_of_list
   cases_more xs first i start next x lt is at h w =
       subst (λ n. Onward a c (code_of_cases sh (drop (i + 1) xs) n) (code_of_cases sh xs first)) (sym at) (onward_more h w (ap (λ l. code_of_cases sh l start) (drops xs i x lt is)))
@@ -127,9 +140,11 @@ module _ (sh : Shape) where
   pub default_here : (xs : List PArm) (i start : ℕ) (x : PArm) → i < length xs → x ≡ get_or xs i x → list_any is_default x.labels ≡ true → default_place_of sh (drop i xs) start ≡ start
   unfolding default_place_of
   default_here xs i start x lt is h =
-      ap (λ l. default_place_of sh l start) (drops xs i x lt is) ∙ ap (λ t. elim t [ true ↦ start | false ↦ place_of_label sh is_default (map (arm_code sh) (drop (i + 1) xs)) ((arm_code sh x).ends start) ]) h
+      ap (λ l. default_place_of sh l start) (drops xs i x lt is) ∙ ap
+      (λ t. elim t [ true ↦ start | false ↦ place_of_label sh is_default (map (arm_code sh) (drop (i + 1) xs)) ((arm_code sh x).ends start) ]) h
 
-  pub default_later : (xs : List PArm) (i start next : ℕ) (x : PArm) → i < length xs → x ≡ get_or xs i x → list_any is_default x.labels ≡ false → next ≡ end_of_list sh x.list start → default_place_of sh (drop i xs) start ≡ default_place_of sh (drop (i + 1) xs) next
+  pub default_later : (xs : List PArm) (i start next : ℕ) (x : PArm) → i < length xs → x ≡ get_or xs i x → list_any is_default x.labels ≡ false → next ≡ end_of_list sh x.list start
+      → default_place_of sh (drop i xs) start ≡ default_place_of sh (drop (i + 1) xs) next
   unfolding default_place_of end_of_list
   default_later xs i start next x lt is h at =
       ap (λ l. default_place_of sh l start) (drops xs i x lt is)
@@ -142,7 +157,8 @@ module _ (sh : Shape) where
 
 -- ---- a list that is made item by item
 
-pub map_more : {A B : Type 0} (f : A → B) (xs : List A) (i : ℕ) (made more : List B) (x : A) → i < length xs → x ≡ get_or xs i x → more ≡ made ++ f x ∷ [] → made ++ map f (drop i xs) ≡ map f xs → more ++ map f (drop (i + 1) xs) ≡ map f xs
+pub map_more : {A B : Type 0} (f : A → B) (xs : List A) (i : ℕ) (made more : List B) (x : A) → i < length xs → x ≡ get_or xs i x → more ≡ made ++ f x ∷ [] → made ++ map f (drop i xs) ≡ map f xs
+    → more ++ map f (drop (i + 1) xs) ≡ map f xs
 map_more f xs i made more x lt is e inv =
     ap (λ l. l ++ map f (drop (i + 1) xs)) e
     ∙ append_assoc made (f x ∷ []) (map f (drop (i + 1) xs))

@@ -10,7 +10,7 @@
 --         return g;
 --     }
 -- and the code that it has.
-use Rattle.std.specs.Prelude.{ℕ, true, false, List, [], ◌∷◌, Some, None}
+use Rattle.std.specs.Prelude.{ℕ, false, List, [], ◌∷◌, Some, None}
 use Rattle.nm_base.specs.declared.operator.Ctype.TheVariants.{Int}
 use Rattle.nm_base.specs.declared.operator.BinaryOp.TheVariants.{Equal, Differ, Sub}
 use Rattle.c_tree.specs.declared.program.Global.{Global}
@@ -24,8 +24,6 @@ use Rattle.c_tree.specs.declared.program.PStmt.TheVariants as stmt
 use Rattle.c_tree.specs.declared.program.Target.TheVariants as target
 use Rattle.stack_code.specs.declared.instr.Instr.{Instr}
 use Rattle.stack_code.specs.declared.instr.Instr.TheVariants as instr
-use Rattle.stack_code.specs.Code.{Placed}
-use Rattle.c_compile.specs.Asm.{in_block}
 
 -- an expression of type int in a line
 abbrev pub int_in : ℕ → PKind → PExpr

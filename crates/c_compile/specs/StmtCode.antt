@@ -250,7 +250,8 @@ module _ (sh : Shape) where
   stmt_step (PStmt-F.Run part line) =
       plain (λ exits blocks. put blocks (instr.Line line) ⨾ effect_code (Some part) blocks) (λ p. effect_ends (Some part) (p + 1)) (expr_code sh part).fits
   stmt_step (PStmt-F.If test first second line) =
-      plain (λ exits blocks. put blocks (instr.Line line) ⨾ if_code test first second exits blocks) (λ p. else_ends second (first.ends (end_of (expr_code sh test).value (p + 1) + 1) + 1)) ((expr_code sh test).fits && (first.fits && else_fits second))
+      plain (λ exits blocks. put blocks (instr.Line line) ⨾ if_code test first second exits blocks) (λ p. else_ends second (first.ends (end_of (expr_code sh test).value (p + 1) + 1) + 1))
+      ((expr_code sh test).fits && (first.fits && else_fits second))
   stmt_step (PStmt-F.While test body line) =
       plain (λ exits blocks. while_code test body line blocks) (λ p. body.ends (test_ends (Some test) (p + 1)) + 1) ((expr_code sh test).fits && body.fits)
   stmt_step (PStmt-F.Do body test line) =

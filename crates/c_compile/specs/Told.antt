@@ -1,5 +1,5 @@
 -- What code tells of names is what the program declares.
-use Rattle.std.specs.Prelude.{◌≡◌, ℕ, List, [], Option, Some, None, map, length, option_map, slice_get, if◌then◌else◌}
+use Rattle.std.specs.Prelude.{◌≡◌, ℕ, List, [], Option, Some, None, map, option_map, slice_get, if◌then◌else◌}
 use Rattle.nm_base.specs.declared.operator.Ctype.{Ctype}
 use Rattle.c_tree.specs.declared.program.Global.{Global}
 use Rattle.c_tree.specs.declared.program.Slot.{Slot}
@@ -39,4 +39,5 @@ pub record TellsNames (p : Program) (code : Code) : Type 0 where
   pub globals : (name : List ℕ) → found code None name ≡ found_by p.globals [] (in_globals name 0 p.globals)
   pub locals :
       (at : CodePlace) (name : List ℕ)
-      → found code (Some at) name ≡ found_by p.globals (slots_of_function (slice_get p.functions at.function)) (or_else (in_function name (entered_at code at.function at.place) (slice_get p.functions at.function)) (in_globals name 0 p.globals))
+      → found code (Some at) name ≡ found_by p.globals (slots_of_function (slice_get p.functions at.function))
+      (or_else (in_function name (entered_at code at.function at.place) (slice_get p.functions at.function)) (in_globals name 0 p.globals))

@@ -38,7 +38,7 @@ pub fn compile(alloc: Global, p: &Program) -> Result<Code, WantOfMemory>
 }
 
 /// The code of all functions.
-fn emit_functions(
+pub fn emit_functions(
     alloc: Global,
     p: &Program,
     variables: &[Variable],

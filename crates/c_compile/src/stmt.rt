@@ -186,7 +186,8 @@ fn emit_if(
     exits: Exits,
 ) -> Result<(), WantOfMemory>
     requires { IsLaidOut body.old }
-    ensures { OnOk result (Wrote body.old body.new (λ blocks. spec.put blocks (Instr.Line line) ⨾ spec.if_code (shape_of scope.now) test.now (stmt_code (shape_of scope.now) yes.now) None exits blocks)) }
+    ensures { OnOk result (Wrote body.old body.new
+        (λ blocks. spec.put blocks (Instr.Line line) ⨾ spec.if_code (shape_of scope.now) test.now (stmt_code (shape_of scope.now) yes.now) None exits blocks)) }
 {
     let place = body.place()?;
     let start = next(place)?;
@@ -210,7 +211,9 @@ fn emit_if_else(
     exits: Exits,
 ) -> Result<(), WantOfMemory>
     requires { IsLaidOut body.old }
-    ensures { OnOk result (Wrote body.old body.new (λ blocks. spec.put blocks (Instr.Line line) ⨾ spec.if_code (shape_of scope.now) test.now (stmt_code (shape_of scope.now) yes.now) (Some (stmt_code (shape_of scope.now) no.now)) exits blocks)) }
+    ensures { OnOk result (Wrote body.old body.new
+        (λ blocks. spec.put blocks (Instr.Line line) ⨾ spec.if_code (shape_of scope.now) test.now (stmt_code (shape_of scope.now) yes.now)
+        (Some (stmt_code (shape_of scope.now) no.now)) exits blocks)) }
 {
     let place = body.place()?;
     let start = next(place)?;

@@ -76,7 +76,8 @@ pub fn put_zeros(scope: &Scope, body: &mut Body, locals: &[Start]) -> Result<(),
 
 fn put_zero(scope: &Scope, body: &mut Body, slot: u32) -> Result<(), WantOfMemory>
     requires { IsLaidOut body.old }
-    ensures { OnOk result (Wrote body.old body.new (λ blocks. spec.zero_by (shape_of scope.now) (slice_get (shape_of scope.now).slots slot) (words_before words_of_slot (shape_of scope.now).slots slot) blocks)) }
+    ensures { OnOk result (Wrote body.old body.new
+        (λ blocks. spec.zero_by (shape_of scope.now) (slice_get (shape_of scope.now).slots slot) (words_before words_of_slot (shape_of scope.now).slots slot) blocks)) }
 {
     match scope.slot(slot) {
         None => Ok(()),

@@ -19,7 +19,8 @@ new-code-requires-clause-sound c =
     let copies = c.in_ok-texts.ensures ∙ c.as_slice-3.ensures in
     let words = c.in_ok-words.ensures ∙ ap first_words c.as_slice-4.ensures in
     let variables = c.in_ok-variables.ensures ∙ ap (globals_from 0) c.as_slice.ensures in
-    let same = view_is p.globals p.functions p.texts p.main c.in_ok-functions.functions.items c.in_ok-texts.texts c.in_ok-words.words.items c.in_ok-variables.variables.items c.in_ok-functions.ensures.code copies words variables in
+    let same = view_is p.globals p.functions p.texts p.main c.in_ok-functions.functions.items c.in_ok-texts.texts c.in_ok-words.words.items c.in_ok-variables.variables.items
+    c.in_ok-functions.ensures.code copies words variables in
     sound_by (view_of c.in_ok-functions.functions.items p.main c.in_ok-texts.texts c.in_ok-words.words.items c.in_ok-variables.variables.items) p.globals p.functions p.texts p.main p.checked same
 
 pub new-code-requires-clause-within : goal.new-code-requires-clause-within
@@ -28,7 +29,8 @@ new-code-requires-clause-within c =
     let copies = c.in_ok-texts.ensures ∙ c.as_slice-3.ensures in
     let words = c.in_ok-words.ensures ∙ ap first_words c.as_slice-4.ensures in
     let variables = c.in_ok-variables.ensures ∙ ap (globals_from 0) c.as_slice.ensures in
-    let same = view_is p.globals p.functions p.texts p.main c.in_ok-functions.functions.items c.in_ok-texts.texts c.in_ok-words.words.items c.in_ok-variables.variables.items c.in_ok-functions.ensures.code copies words variables in
+    let same = view_is p.globals p.functions p.texts p.main c.in_ok-functions.functions.items c.in_ok-texts.texts c.in_ok-words.words.items c.in_ok-variables.variables.items
+    c.in_ok-functions.ensures.code copies words variables in
     within_by (view_of c.in_ok-functions.functions.items p.main c.in_ok-texts.texts c.in_ok-words.words.items c.in_ok-variables.variables.items) p.globals p.functions p.texts p.main p.checked same
 
 pub returns : goal.returns
@@ -37,7 +39,8 @@ returns c =
     let copies = c.in_ok-texts.ensures ∙ c.as_slice-3.ensures in
     let words = c.in_ok-words.ensures ∙ ap first_words c.as_slice-4.ensures in
     let variables = c.in_ok-variables.ensures ∙ ap (globals_from 0) c.as_slice.ensures in
-    let same = c.new-code.ensures ∙ view_is p.globals p.functions p.texts p.main c.in_ok-functions.functions.items c.in_ok-texts.texts c.in_ok-words.words.items c.in_ok-variables.variables.items c.in_ok-functions.ensures.code copies words variables in
+    let same = c.new-code.ensures ∙ view_is p.globals p.functions p.texts p.main c.in_ok-functions.functions.items c.in_ok-texts.texts c.in_ok-words.words.items c.in_ok-variables.variables.items
+    c.in_ok-functions.ensures.code copies words variables in
     record {
       code = same;
       stands = stands_by p.globals p.functions p.texts p.main (code_of c.new-code.result) p.checked same;

@@ -1,4 +1,4 @@
-use Rattle.std.proofs.Common.{◌≡◌, ◌++◌, ◌<◌, ap, sym, ◌∙◌, subst, map, length, get_or, arith}
+use Rattle.std.proofs.Common.{◌≡◌, ◌++◌, ◌<◌, ap, ◌∙◌, subst, map, length, get_or, arith}
 use Rattle.std.specs.List.{list_all}
 use Rattle.c_tree.specs.Storage.{words_of, words_of_global}
 use Rattle.stack_code.specs.Blocks.{function_of, is_kept}
@@ -9,8 +9,11 @@ use Rattle.c_compile.proofs.program.emit_functions.Goals as goal
 pub loop-function-init : goal.loop-function-init
 loop-function-init c =
     let p = c.args.p.now in
-    let code = function_code p.globals p.functions p.texts in
-    (ap (λ l. map function_of l ++ map code c.as_slice-function-items.result.now) c.new-functions.ensures.items ∙ ap (map code) c.as_slice-function-items.ensures, ap (list_all is_kept) c.new-functions.ensures.items)
+    let code = function_code p.globals p.functions p.texts in (
+      ap (λ l. map function_of l ++ map code c.as_slice-function-items.result.now) c.new-functions.ensures.items
+          ∙ ap (map code) c.as_slice-function-items.ensures,
+      ap (list_all is_kept) c.new-functions.ensures.items,
+    )
 
 pub emit_function-requires-clause-name : goal.emit_function-requires-clause-name
 emit_function-requires-clause-name c =
@@ -39,8 +42,11 @@ loop-function-preserved c =
     let code = function_code p.globals p.functions p.texts in
     let made = c.loop-function.functions.items in
     let more = c.add.new.items.items in
-    let inv = c.loop-function.invariant in
-    (functions_more code c.as_slice-function-items.result.now c.loop-function.function-index made more c.function-item.result c.in_ok-code.code (map code p.functions) c.loop-function-test.true c.function-item.is c.in_ok-code.ensures.code c.in_ok-add.ensures inv.0, kept_more made more c.in_ok-code.code c.in_ok-add.ensures inv.1 c.in_ok-code.ensures.kept)
+    let inv = c.loop-function.invariant in (
+      functions_more code c.as_slice-function-items.result.now c.loop-function.function-index made more c.function-item.result c.in_ok-code.code (map code p.functions) c.loop-function-test.true
+          c.function-item.is c.in_ok-code.ensures.code c.in_ok-add.ensures inv.0,
+      kept_more made more c.in_ok-code.code c.in_ok-add.ensures inv.1 c.in_ok-code.ensures.kept,
+    )
 
 pub returns : goal.returns
 returns c =

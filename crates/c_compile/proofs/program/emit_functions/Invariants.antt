@@ -6,4 +6,5 @@ use Rattle.c_compile.proofs.program.emit_functions.Given as goal
 
 abbrev pub invariant-loop-function : goal.invariant-loop-function
 invariant-loop-function l =
-    (map function_of l.functions.items ++ map (function_code l.p.globals l.p.functions l.p.texts) (drop l.function-index l.function-items) ≡ map (function_code l.p.globals l.p.functions l.p.texts) l.p.functions) × (list_all is_kept l.functions.items ≡ true)
+    (map function_of l.functions.items ++ map (function_code l.p.globals l.p.functions l.p.texts) (drop l.function-index l.function-items) ≡ map (function_code l.p.globals l.p.functions l.p.texts)
+    l.p.functions) × (list_all is_kept l.functions.items ≡ true)

@@ -1,5 +1,5 @@
 use Rattle.c_compile.specs.Emitted.{shape_of}
-use Rattle.c_compile.proofs.Written.{run_written, while_written}
+use Rattle.c_compile.proofs.Written.{run_written}
 use Rattle.c_compile.proofs.stmt.emit_run.Goals as goal
 
 pub returns : goal.returns

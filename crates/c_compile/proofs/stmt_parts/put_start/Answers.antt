@@ -7,4 +7,5 @@ returns-in-None c = start_none (shape_of c.args.scope.now) c.args.local.now.slot
 
 pub returns-in_ok-put-in-Some-5 : goal.returns-in_ok-put-in-Some-5
 returns-in_ok-put-in-Some-5 c =
-    start_some (shape_of c.args.scope.now) c.args.local.now.slot c.args.local.now.line c.args.local.now.value c.in-Some.e c.slot_place-place.result c.in-Some.is c.slot_place-place.ensures c.in_ok-put-in-Some.ensures c.in_ok-put_value-in-Some.ensures c.in_ok-put-in-Some-2.ensures c.in_ok-put-in-Some-3.ensures c.in_ok-put-in-Some-4.ensures c.in_ok-put-in-Some-5.ensures
+    start_some (shape_of c.args.scope.now) c.args.local.now.slot c.args.local.now.line c.args.local.now.value c.in-Some.e c.slot_place-place.result c.in-Some.is c.slot_place-place.ensures
+    c.in_ok-put-in-Some.ensures c.in_ok-put_value-in-Some.ensures c.in_ok-put-in-Some-2.ensures c.in_ok-put-in-Some-3.ensures c.in_ok-put-in-Some-4.ensures c.in_ok-put-in-Some-5.ensures

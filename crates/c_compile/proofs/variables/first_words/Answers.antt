@@ -4,7 +4,8 @@ use Rattle.c_compile.proofs.variables.first_words.Goals as goal
 
 pub loop-global-preserved : goal.loop-global-preserved
 loop-global-preserved c =
-    first_more c.args.globals.now c.loop-global.global-index c.loop-global.words.items c.add_words.new.words.items c.global-item.result c.global_words.result c.loop-global-test.true c.global-item.is c.global_words.ensures c.in_ok-add_words.ensures c.loop-global.invariant
+    first_more c.args.globals.now c.loop-global.global-index c.loop-global.words.items c.add_words.new.words.items c.global-item.result c.global_words.result c.loop-global-test.true
+    c.global-item.is c.global_words.ensures c.in_ok-add_words.ensures c.loop-global.invariant
 
 pub returns : goal.returns
 returns c =

@@ -4,4 +4,5 @@ use Rattle.c_compile.specs.Variables.{globals_from}
 use Rattle.c_compile.proofs.variables.global_variables.Given as goal
 
 abbrev pub invariant-loop-global : goal.invariant-loop-global
-invariant-loop-global l = (l.place + words_of words_of_global (drop l.global-index l.globals) ≡ words_of words_of_global l.globals) × (l.variables.items ++ globals_from l.place (drop l.global-index l.globals) ≡ globals_from 0 l.globals)
+invariant-loop-global l = (l.place + words_of words_of_global (drop l.global-index l.globals) ≡ words_of words_of_global l.globals) ×
+    (l.variables.items ++ globals_from l.place (drop l.global-index l.globals) ≡ globals_from 0 l.globals)

@@ -18,4 +18,6 @@ pub returns : goal.returns
 returns c =
     let first = c.add_slots.new.variables.items in
     let none = c.new-variables.result.items in
-    all_slots c.args.function.now.params c.args.function.now.locals none first c.add_slots-2.new.variables.items c.in_ok-params.params c.new-variables.ensures.items (c.in_ok-params.ensures.end ∙ ap (λ l. 0 + words_of words_of_slot l) c.as_slice.ensures) (c.in_ok-params.ensures.added ∙ ap (λ l. none ++ slots_from 0 l) c.as_slice.ensures) (c.in_ok-_end.ensures.added ∙ ap (λ l. first ++ slots_from c.in_ok-params.params l) c.as_slice-2.ensures)
+    all_slots c.args.function.now.params c.args.function.now.locals none first c.add_slots-2.new.variables.items c.in_ok-params.params c.new-variables.ensures.items
+    (c.in_ok-params.ensures.end ∙ ap (λ l. 0 + words_of words_of_slot l) c.as_slice.ensures) (c.in_ok-params.ensures.added ∙ ap (λ l. none ++ slots_from 0 l) c.as_slice.ensures)
+    (c.in_ok-_end.ensures.added ∙ ap (λ l. first ++ slots_from c.in_ok-params.params l) c.as_slice-2.ensures)

@@ -6,12 +6,17 @@ use Rattle.c_compile.proofs.variables.words_of_globals.Goals as goal
 pub overflow_add-words : goal.overflow_add-words
 overflow_add-words c =
     let xs = c.args.globals.now in
-    omega (arith, words_fit words_of_global xs c.loop-global.global-index c.loop-global.words c.global_words-words.result (words_of words_of_global xs) (2 ^ 32) c.global-item.result c.loop-global-test.true c.global-item.is c.global_words-words.ensures c.loop-global.invariant c.requires)
+    omega (
+      arith,
+      words_fit words_of_global xs c.loop-global.global-index c.loop-global.words c.global_words-words.result (words_of words_of_global xs)
+          (2 ^ 32) c.global-item.result c.loop-global-test.true c.global-item.is c.global_words-words.ensures c.loop-global.invariant c.requires,
+    )
 
 pub loop-global-preserved : goal.loop-global-preserved
 loop-global-preserved c =
     let xs = c.args.globals.now in
-    words_more words_of_global xs c.loop-global.global-index c.loop-global.words (c.loop-global.words + c.global_words-words.result) (words_of words_of_global xs) c.global-item.result c.loop-global-test.true c.global-item.is (ap (λ n. c.loop-global.words + n) c.global_words-words.ensures) c.loop-global.invariant
+    words_more words_of_global xs c.loop-global.global-index c.loop-global.words (c.loop-global.words + c.global_words-words.result) (words_of words_of_global xs) c.global-item.result
+    c.loop-global-test.true c.global-item.is (ap (λ n. c.loop-global.words + n) c.global_words-words.ensures) c.loop-global.invariant
 
 pub returns : goal.returns
 returns c =

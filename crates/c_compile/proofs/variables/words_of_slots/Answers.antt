@@ -6,12 +6,17 @@ use Rattle.c_compile.proofs.variables.words_of_slots.Goals as goal
 pub overflow_add-words : goal.overflow_add-words
 overflow_add-words c =
     let xs = c.args.slots.now in
-    omega (arith, words_fit words_of_slot xs c.loop-slot.slot-index c.loop-slot.words c.slot_words-words.result (words_of words_of_slot xs) (2 ^ 32) c.slot-item.result c.loop-slot-test.true c.slot-item.is c.slot_words-words.ensures c.loop-slot.invariant c.requires)
+    omega (
+      arith,
+      words_fit words_of_slot xs c.loop-slot.slot-index c.loop-slot.words c.slot_words-words.result (words_of words_of_slot xs) (2 ^ 32) c.slot-item.result c.loop-slot-test.true
+          c.slot-item.is c.slot_words-words.ensures c.loop-slot.invariant c.requires,
+    )
 
 pub loop-slot-preserved : goal.loop-slot-preserved
 loop-slot-preserved c =
     let xs = c.args.slots.now in
-    words_more words_of_slot xs c.loop-slot.slot-index c.loop-slot.words (c.loop-slot.words + c.slot_words-words.result) (words_of words_of_slot xs) c.slot-item.result c.loop-slot-test.true c.slot-item.is (ap (λ n. c.loop-slot.words + n) c.slot_words-words.ensures) c.loop-slot.invariant
+    words_more words_of_slot xs c.loop-slot.slot-index c.loop-slot.words (c.loop-slot.words + c.slot_words-words.result) (words_of words_of_slot xs) c.slot-item.result c.loop-slot-test.true
+    c.slot-item.is (ap (λ n. c.loop-slot.words + n) c.slot_words-words.ensures) c.loop-slot.invariant
 
 pub returns : goal.returns
 returns c =
