@@ -74,12 +74,16 @@ add_global of d n start = λ s. fine tt (record s {
   entries = s.entries ++ global_entry of d n (length s.globals) ∷ [];
 })
 
+-- what is visible in the initialiser of a global: its own name, too
+abbrev pub visible_after : Ctype → Declr → Option ℕ → File → Names
+visible_after of d n s = names_of (s.entries ++ global_entry of d n (length s.globals) ∷ []) s.headings
+
 abbrev pub global : Ctype → Declr → Files (Unit {0})
 global of d = do
   s ← get
   note (global_faults d s)
   n ← lift (size (visible s) d.size d.line)
-  start ← lift (initial (visible s) d.start)
+  start ← lift (initial (visible_after of d n s) d.start)
   count_words (global_of of d n start) d.line
   add_global of d n start
 
