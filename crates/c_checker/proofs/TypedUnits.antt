@@ -29,7 +29,7 @@ use Rattle.c_checker.specs.declared.state.File.{File}
 use Rattle.c_checker.specs.Found.{Found, unless}
 use Rattle.c_checker.specs.Scope.{Names, variable, built_in, latest, find, params_of, params_of_heading, is_taken}
 use Rattle.c_checker.specs.Statements.{declr_faults, size}
-use Rattle.c_checker.specs.Units.{visible, visible_after, initial, global_of, global_entry, global, globals, slot_of_param, param_name_faults, params, heading_of, first_head, head_of, head}
+use Rattle.c_checker.specs.Units.{visible, visible_after, visible_params, initial, global_of, global_entry, global, globals, slot_of_param, param_name_faults, params, heading_of, first_head, head_of, head}
 use Rattle.c_checker.proofs.TypedLists.{Front, front_then, front_last, get_next, nil_left, nil_right, unless_none, and_true, both_true, not_nil}
 use Rattle.c_checker.proofs.TypedReads.{AllShort}
 use Rattle.c_checker.proofs.TypedParts.{ThingFits, SameParams}
@@ -269,13 +269,13 @@ module _ (G : List Global) (F : List Function) (T : List (List ℕ)) where
   param_fit x None before h = absurd (not_nil (TooMany x.line) [] [] h)
   param_fit x (Some name) before h = and_true (and_true (unless_none (is_name name) (TooMany x.line) (nil_left (unless (is_name name) (TooMany x.line)) _ h)) refl) refl
 
-  pub params_fit : (names : Names) (before : List Slot) (more : List Param) → ParamsFit before → (params names true before more).faults ≡ []
+  pub params_fit : (names : List Slot → Names) (before : List Slot) (more : List Param) → ParamsFit before → (params names true before more).faults ≡ []
       → ParamsFit (params names true before more).value
   params_fit names before [] a h = a
   params_fit names before (x ∷ more) a h =
       let own = param_name_faults true before x.name x.line in
       let many = unless (nat_lt (length before) 31) (TooMany x.line) in
-      let n = size names x.size x.line in
+      let n = size (names before) x.size x.line in
       let rest = params names true (before ++ slot_of_param x ∷ []) more in
       let first = nil_left (own ++ many) (n.faults ++ rest.faults) h in
       params_fit names (before ++ slot_of_param x ∷ []) more
@@ -331,12 +331,12 @@ module _ (G : List Global) (F : List Function) (T : List (List ℕ)) where
 
   pub head_keeps : (h : Head) (defines : Bool) (s : File) → (head h defines s).faults ≡ [] → FileEnd (head h defines s).state → KnownFile s → AfterHead h (head h defines s).state
   head_keeps h defines s n e k =
-      let xs = params (visible s) defines [] h.params in
+      let xs = params (visible_params s) defines [] h.params in
       let found = head_of (find s.entries h.name) h xs.value defines s in
       head_by (find s.entries h.name) h xs.value defines s refl (nil_left found.faults [] (nil_right xs.faults (found.faults ++ []) n)) e k
 
   pub head_params : (h : Head) (s : File) → (head h true s).faults ≡ [] → ParamsFit (head h true s).value.1
   head_params h s n =
-      let xs = params (visible s) true [] h.params in
+      let xs = params (visible_params s) true [] h.params in
       let found = head_of (find s.entries h.name) h xs.value true s in
-      params_fit (visible s) [] h.params (record { fit = refl; few = omega arith }) (nil_left xs.faults (found.faults ++ []) n)
+      params_fit (visible_params s) [] h.params (record { fit = refl; few = omega arith }) (nil_left xs.faults (found.faults ++ []) n)
