@@ -18,7 +18,7 @@ use Rattle.c_checker.specs.declared.entries.Thing.TheVariants as t
 use Rattle.c_checker.specs.declared.state.File.{File}
 use Rattle.c_checker.specs.Found.{unless}
 use Rattle.c_checker.specs.Scope.{find}
-use Rattle.c_checker.specs.Units.{visible, global, globals, params, same_kind, same_kinds, same_result, later_faults, heading_of, first_head, head_of, head, with_body_of}
+use Rattle.c_checker.specs.Units.{visible_params, global, globals, params, same_kind, same_kinds, same_result, later_faults, heading_of, first_head, head_of, head, with_body_of}
 use Rattle.c_checker.specs.Units.{body_begin, body_of, function_of, item, items, functions_of, missing}
 use Rattle.c_checker.proofs.TypedLists.{Front, front_same, front_more, front_then, nil_left, nil_right, unless_none, both_true, not_nil}
 use Rattle.c_checker.proofs.TypedParts.{SameParams, same_is}
@@ -183,7 +183,7 @@ head_of_grows (t.BuiltIn b) h xs defines s = record { texts = front_same s.texts
 head_of_grows t.Unknown h xs defines s = record { texts = front_same s.texts; globals = front_same s.globals; heads = heads_more s.headings (heading_of h xs ∷ []) }
 
 pub head_grows : (h : Head) (defines : Bool) (s : File) → GrowsFile s (head h defines s).state
-head_grows h defines s = head_of_grows (find s.entries h.name) h (params (visible s) defines [] h.params).value defines s
+head_grows h defines s = head_of_grows (find s.entries h.name) h (params (visible_params s) defines [] h.params).value defines s
 
 any_names : typing.Names
 any_names = record { globals = []; functions = []; texts = []; slots = [] }
@@ -253,7 +253,7 @@ head_of_headed t.Unknown h xs defines s c n = first_headed h xs s c
 pub head_headed : (h : Head) (defines : Bool) (s : File) → Consistent s.headings → (head h defines s).faults ≡ []
     → Headed h (head h defines s).value.1 (head h defines s).value.0 (head h defines s).state
 head_headed h defines s c n =
-    let xs = params (visible s) defines [] h.params in
+    let xs = params (visible_params s) defines [] h.params in
     let found = head_of (find s.entries h.name) h xs.value defines s in
     head_of_headed (find s.entries h.name) h xs.value defines s c (nil_left found.faults [] (nil_right xs.faults (found.faults ++ []) n))
 

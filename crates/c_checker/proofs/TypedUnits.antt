@@ -29,7 +29,7 @@ use Rattle.c_checker.specs.declared.state.File.{File}
 use Rattle.c_checker.specs.Found.{Found, unless}
 use Rattle.c_checker.specs.Scope.{Names, variable, built_in, latest, find, params_of, params_of_heading, is_taken}
 use Rattle.c_checker.specs.Statements.{declr_faults, size}
-use Rattle.c_checker.specs.Units.{visible, initial, global_of, global_entry, global, globals, slot_of_param, param_name_faults, params, heading_of, first_head, head_of, head}
+use Rattle.c_checker.specs.Units.{visible, visible_after, visible_params, initial, global_of, global_entry, global, globals, slot_of_param, param_name_faults, params, heading_of, first_head, head_of, head}
 use Rattle.c_checker.proofs.TypedLists.{Front, front_then, front_last, get_next, nil_left, nil_right, unless_none, and_true, both_true, not_nil}
 use Rattle.c_checker.proofs.TypedReads.{AllShort}
 use Rattle.c_checker.proofs.TypedParts.{ThingFits, SameParams}
@@ -185,10 +185,10 @@ module _ (G : List Global) (F : List Function) (T : List (List ℕ)) where
   words_more [] g = omega arith
   words_more (x ∷ xs) g = omega (arith, words_more xs g)
 
-  start_is : (names : Names) (n o : Option Expr) (line : ℕ) → (is_none n || is_none o) ≡ true → (is_none (size names n line).value || (initial names o).value == 0) ≡ true
-  start_is names None o line h = refl
-  start_is names (Some e) None line h = refl
-  start_is names (Some e) (Some x) line h = cc
+  start_is : (names after : Names) (n o : Option Expr) (line : ℕ) → (is_none n || is_none o) ≡ true → (is_none (size names n line).value || (initial after o).value == 0) ≡ true
+  start_is names after None o line h = refl
+  start_is names after (Some e) None line h = refl
+  start_is names after (Some e) (Some x) line h = cc
 
   entry_fits : (n k : ℕ) (g : Global) → slice_get G k ≡ Some g → FileThing n (variable (AGlobal k) g.of (is_some g.length))
   entry_fits n k g h = by g.length h
@@ -202,7 +202,7 @@ module _ (G : List Global) (F : List Function) (T : List (List ℕ)) where
     sized = size (visible s) d.size d.line
 
     abbrev begun : Found (Unit {0}) ℕ
-    begun = initial (visible s) d.start
+    begun = initial (visible_after of d sized.value s) d.start
 
     abbrev made : Global
     made = global_of of d sized.value begun.value
@@ -242,7 +242,7 @@ module _ (G : List Global) (F : List Function) (T : List (List ℕ)) where
           entries = entries_and (length s.headings) s.entries (global_entry of d sized.value (length s.globals) ∷ []) k.entries
               (entry_fits (length s.headings) (length s.globals) made (front_last s.globals made e.globals), tt);
           named = list_all-append (λ (e : Entry). is_name e.name) s.entries (global_entry of d sized.value (length s.globals) ∷ []) ∙ and_true k.named (and_true f.name refl);
-          globals = list_all-append global_fits s.globals (made ∷ []) ∙ and_true k.globals (and_true (and_true (and_true f.name f.length) (start_is (visible s) d.size d.start d.line f.array)) refl);
+          globals = list_all-append global_fits s.globals (made ∷ []) ∙ and_true k.globals (and_true (and_true (and_true f.name f.length) (start_is (visible s) (visible_after of d sized.value s) d.size d.start d.line f.array)) refl);
           many = omega (arith, f.few, length-append s.globals (made ∷ []));
           words = words_more s.globals made ∙ ap (λ n. n + words_of_global made) k.words ∙ sym words;
           room = omega (arith, words, leb-true (s.words + words_of_global made) 65536 f.words);
@@ -269,13 +269,13 @@ module _ (G : List Global) (F : List Function) (T : List (List ℕ)) where
   param_fit x None before h = absurd (not_nil (TooMany x.line) [] [] h)
   param_fit x (Some name) before h = and_true (and_true (unless_none (is_name name) (TooMany x.line) (nil_left (unless (is_name name) (TooMany x.line)) _ h)) refl) refl
 
-  pub params_fit : (names : Names) (before : List Slot) (more : List Param) → ParamsFit before → (params names true before more).faults ≡ []
+  pub params_fit : (names : List Slot → Names) (before : List Slot) (more : List Param) → ParamsFit before → (params names true before more).faults ≡ []
       → ParamsFit (params names true before more).value
   params_fit names before [] a h = a
   params_fit names before (x ∷ more) a h =
       let own = param_name_faults true before x.name x.line in
       let many = unless (nat_lt (length before) 31) (TooMany x.line) in
-      let n = size names x.size x.line in
+      let n = size (names before) x.size x.line in
       let rest = params names true (before ++ slot_of_param x ∷ []) more in
       let first = nil_left (own ++ many) (n.faults ++ rest.faults) h in
       params_fit names (before ++ slot_of_param x ∷ []) more
@@ -331,12 +331,12 @@ module _ (G : List Global) (F : List Function) (T : List (List ℕ)) where
 
   pub head_keeps : (h : Head) (defines : Bool) (s : File) → (head h defines s).faults ≡ [] → FileEnd (head h defines s).state → KnownFile s → AfterHead h (head h defines s).state
   head_keeps h defines s n e k =
-      let xs = params (visible s) defines [] h.params in
+      let xs = params (visible_params s) defines [] h.params in
       let found = head_of (find s.entries h.name) h xs.value defines s in
       head_by (find s.entries h.name) h xs.value defines s refl (nil_left found.faults [] (nil_right xs.faults (found.faults ++ []) n)) e k
 
   pub head_params : (h : Head) (s : File) → (head h true s).faults ≡ [] → ParamsFit (head h true s).value.1
   head_params h s n =
-      let xs = params (visible s) true [] h.params in
+      let xs = params (visible_params s) true [] h.params in
       let found = head_of (find s.entries h.name) h xs.value true s in
-      params_fit (visible s) [] h.params (record { fit = refl; few = omega arith }) (nil_left xs.faults (found.faults ++ []) n)
+      params_fit (visible_params s) [] h.params (record { fit = refl; few = omega arith }) (nil_left xs.faults (found.faults ++ []) n)

@@ -74,12 +74,16 @@ add_global of d n start = λ s. fine tt (record s {
   entries = s.entries ++ global_entry of d n (length s.globals) ∷ [];
 })
 
+-- what is visible in the initialiser of a global: its own name, too
+abbrev pub visible_after : Ctype → Declr → Option ℕ → File → Names
+visible_after of d n s = names_of (s.entries ++ global_entry of d n (length s.globals) ∷ []) s.headings
+
 abbrev pub global : Ctype → Declr → Files (Unit {0})
 global of d = do
   s ← get
   note (global_faults d s)
   n ← lift (size (visible s) d.size d.line)
-  start ← lift (initial (visible s) d.start)
+  start ← lift (initial (visible_after of d n s) d.start)
   count_words (global_of of d n start) d.line
   add_global of d n start
 
@@ -111,13 +115,17 @@ param_name_faults defines before (Some name) line = unless (is_name name) (TooMa
 abbrev pub param_faults : Bool → List Slot → Param → List CheckFault
 param_faults defines before x = param_name_faults defines before x.name x.line ++ unless (nat_lt (length before) 31) (TooMany x.line)
 
-module _ (names : Names) (defines : Bool) where
+-- what is visible in the size of a parameter: the parameters before it, too
+abbrev pub visible_params : File → List Slot → Names
+visible_params s before = names_of (s.entries ++ param_entries 0 before) s.headings
+
+module _ (names : List Slot → Names) (defines : Bool) where
   -- the parameters after those before them, of a definition or not
   abbrev pub params : List Slot → List Param → Found (Unit {0}) (List Slot)
   params before [] = fine before tt
   params before (x ∷ more) = (do
     note (param_faults defines before x)
-    n ← (λ _. size names x.size x.line)
+    n ← (λ _. size (names before) x.size x.line)
     (λ _. params (before ++ slot_of_param x ∷ []) more)) tt
 
 abbrev pub same_kind : Slot → Slot → Bool
@@ -167,7 +175,7 @@ head_of other h xs defines = first_head h xs
 abbrev pub head : Head → Bool → Files (ℕ × List Slot)
 head h defines = do
   s ← get
-  xs ← lift (params (visible s) defines [] h.params)
+  xs ← lift (params (visible_params s) defines [] h.params)
   f ← head_of (find s.entries h.name) h xs defines
   pure (f, xs)
 

@@ -1,10 +1,11 @@
 //! Heads of functions.
 
-ghost use Rattle.std.specs.Prelude.{◌≡◌, [], ◌∷◌, Some, length, unwrap_or, IfOk, IfErr};
+ghost use Rattle.std.specs.Prelude.{◌≡◌, List, [], ◌∷◌, Some, length, unwrap_or, IfOk, IfErr};
 ghost use Rattle.std.specs.List.{list_any};
 ghost use Rattle.std.specs.Str.{bytes_eq};
 ghost use Rattle.c_checker.specs.Found.{Gives, Refuses, Tests};
 ghost use Rattle.c_checker.specs.Scope.{Names};
+ghost use Rattle.c_tree.specs.declared.program.Slot.{Slot};
 ghost use Rattle.c_checker.specs.Units as spec;
 
 use crate::body::{is_name, size};
@@ -96,7 +97,7 @@ fn slot_of_param(alloc: Global, param: &Param) -> Result<Slot, WantOfMemory>
 
 /// The parameters of a head.
 fn params(alloc: Global, defines: bool, mut list: &[Param]) -> Result<List<Slot>, CheckFault>
-    ensures { (names : Names) → Gives (spec.params names defines [] list.entry.now) result tt }
+    ensures { (names : List Slot → Names) → Gives (spec.params names defines [] list.entry.now) result tt }
 {
     let mut before = List::from_vec(Vec::new(alloc));
     while let [param, rest @ ..] = list {

@@ -24,6 +24,6 @@ returns-in_err-size c = λ names.
     let head = first_is xs first c.in-len1-up.len_at_least c.param-item.is in
     let f = c.in_err-size.field-0.0 in
     let refused = λ (ys : List Param). Refuses (spec.params names c.args.defines c.loop-list.before ys).faults f in
-    let sized = refuses_left (size names first.size first.line).faults _ f (c.in_err-size.ensures names) in
+    let sized = refuses_left (size (names c.loop-list.before) first.size first.line).faults _ f (c.in_err-size.ensures (names c.loop-list.before)) in
     let here : refused (first ∷ drop 1 xs) = refuses_right (spec.param_faults c.args.defines c.loop-list.before first) _ f sized in
     gives_err _ _ _ f (subst (λ found. Refuses found.faults f) (sym (c.loop-list.invariant names)) (subst refused (sym head) here)) c.from_residual-in_err-size.ensures.1
