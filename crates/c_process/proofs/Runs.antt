@@ -1,0 +1,109 @@
+-- A run with more events and letters goes on from where the shorter one stands.
+use Rattle.std.proofs.Common.{◌≡◌, ℕ, zero, suc, ◌+◌, Bool, true, false, List, [], ◌∷◌, ◌++◌, length, Option, Some, None, refl, sym, ap, ◌∙◌, subst, arith, add-one}
+use Rattle.std.specs.Prelude.{nat_lt, nat_le, slice_get}
+use Rattle.nm_base.specs.declared.kind.Kind.{Kind}
+use Rattle.nm_base.specs.declared.kind.FaultCause.TheVariants.{DepthFull, DataFull}
+use Rattle.nm_base.specs.Message.{Message}
+use Rattle.nm_base.specs.Scripts.{Goes}
+use Rattle.nm_base.specs.Scripts as scripts
+use Rattle.c_tree.specs.State.{State, Status, Able, Wants, Over, Outcome, Done, Stopped, Run, then_on}
+use Rattle.c_tree.specs.Expr.{frame_limit, words_limit}
+use Rattle.c_tree.specs.Play.{Setting, Played, played_of, next, run_of, play}
+use Rattle.c_tree.proofs.Longer.{Extends, Follows, bind_follows, read_follows, change_follows, demand_follows}
+use Rattle.stack_code.specs.Code.{FunctionCode, Code}
+use Rattle.stack_code.specs.Law.{more}
+use Rattle.stack_code.specs.Machine.{Control, open_frame, new_frame, filled, blocks_of, step, exec, started_by, first_data, run_code}
+use Rattle.stack_code.proofs.Law.{stopped_stays, step_more}
+use Rattle.c_compile.specs.Correct.{StopsAlike, StandsFor}
+use Rattle.c_process.specs.Runs.{run_from, shown_at, Reaches, StopsAt, StandsAt, Waits}
+
+-- ---- steps
+
+module _ (code : Code) (count me : ℕ) where
+  abbrev exec' : ℕ → Control → Run Control
+  exec' n = exec code count me n
+
+  exec_on : (n j : ℕ) (c : Control) (t : State) → exec' (n + j) c t ≡ then_on (exec' n c t) (exec' j)
+  exec_on zero j c t = let e : 0 + j ≡ j = omega arith in ap (λ i. exec' i c t) e
+  exec_on (suc n) j c t =
+      let e : suc n + j ≡ suc (n + j) = omega arith in
+      ap (λ i. exec' i c t) e ∙ by (λ d u. exec_on n j d u) (step code count me c t)
+    where
+      by : ((d : Control) (u : State) → exec' (n + j) d u ≡ then_on (exec' n d u) (exec' j)) → (o : Outcome Control) → then_on o (exec' (n + j)) ≡ then_on (then_on o (exec' n)) (exec' j)
+      by k (Done d u) = k d u
+      by k (Stopped status s) = refl
+
+  then_exec_on : (n j : ℕ) (o : Outcome Control) → then_on o (exec' (n + j)) ≡ then_on (then_on o (exec' n)) (exec' j)
+  then_exec_on n j (Done d u) = exec_on n j d u
+  then_exec_on n j (Stopped status s) = refl
+
+  pub run_on : (inputs : List Message) (k n j : ℕ) → run_code code count me inputs k (n + j) ≡ then_on (run_code code count me inputs k n) (exec' j)
+  run_on inputs k n j = then_exec_on n j (started_by code count me (slice_get code.functions code.main) (first_data code count me inputs k))
+
+  abbrev done : Control → State → Outcome Control
+  done c t = Done c t
+
+  abbrev pub stopped : Status → State → Outcome Control
+  stopped status s = Stopped status s
+
+  -- a run stops in one state
+  pub stops_once : (inputs : List Message) (k : ℕ) (status status' : Status) (s s' : State) → StopsAt code count me inputs k status s → StopsAt code count me inputs k status' s' → stopped status s ≡ stopped status' s'
+  stops_once inputs k status status' s s' a b =
+      let e : a.0 + b.0 ≡ b.0 + a.0 = omega arith in
+      let left : run_code code count me inputs k (a.0 + b.0) ≡ Stopped status s = run_on inputs k a.0 b.0 ∙ ap (λ o. then_on o (exec' b.0)) a.1 in
+      let right : run_code code count me inputs k (b.0 + a.0) ≡ Stopped status' s' = run_on inputs k b.0 a.0 ∙ ap (λ o. then_on o (exec' a.0)) b.1 in
+      sym left ∙ ap (run_code code count me inputs k) e ∙ right
+
+  -- ---- more events and letters
+
+  module _ (extra : ℕ) (letters : List Message) where
+    pub open_frame_follows : (b b' number line size : ℕ) (words : List ℕ) → Follows extra letters b b' (open_frame number line size words) (open_frame number line size words)
+    open_frame_follows b b' number line size words =
+        bind_follows extra letters (read_follows extra letters b b' (λ s. length s.frames) (λ s. refl)) (λ depth.
+        bind_follows extra letters (demand_follows extra letters b b' (nat_lt depth frame_limit) DepthFull) (λ _.
+        bind_follows extra letters (read_follows extra letters b b' (λ s. length s.words) (λ s. refl)) (λ before.
+        bind_follows extra letters (demand_follows extra letters b b' (nat_le (before + size) words_limit) DataFull) (λ _.
+        change_follows extra letters b b' (new_frame number line size words) (λ s. refl) (λ s. refl) (λ s. refl)))))
+
+    done_more : (c : Control) (t : State) (d : Control) (u : State) → done c t ≡ done d u → done c (more extra letters t) ≡ done d (more extra letters u)
+    done_more c t d u e =
+        let place : c ≡ d = cc in
+        let state : t ≡ u = cc in
+        ap (λ c. done c (more extra letters t)) place ∙ ap (λ t. done d (more extra letters t)) state
+
+    started_more : (f : Option FunctionCode) (t : State) (d : Control) (u : State) → started_by code count me f t ≡ Done d u → started_by code count me f (more extra letters t) ≡ Done d (more extra letters u)
+    started_more None t d u e = done_more _ t d u e
+    started_more (Some f) t d u e =
+        let go = open_frame code.main f.line f.frame_words [] in
+        by (go t) (go (more extra letters t)) ((open_frame_follows (suc t.left) (suc (t.left + extra)) code.main f.line f.frame_words []).follows t (omega arith) (omega arith)) e
+      where
+        begin : Control
+        begin = record { function = code.main; pc = 0; stack = []; callers = [] }
+        by : (o o' : Outcome (Unit {0})) → Extends extra letters o o' → then_on o (λ _ t. Done begin t) ≡ Done d u → then_on o' (λ _ t. Done begin t) ≡ Done d (more extra letters u)
+        by (Done a s) o' x e =
+            ap (λ o. then_on o (λ _ t. Done begin t)) x ∙ done_more begin s d u e
+        by (Stopped status s) o' x e = cc
+
+    exec_more : (n : ℕ) (c : Control) (t : State) (d : Control) (u : State) → exec' n c t ≡ Done d u → exec' n c (more extra letters t) ≡ Done d (more extra letters u)
+    exec_more zero c t d u e = done_more c t d u e
+    exec_more (suc n) c t d u e = by (λ d' u' f. exec_more n d' u' d u f) (step code count me c t) refl e
+      where
+        by : ((d' : Control) (u' : State) → exec' n d' u' ≡ Done d u → exec' n d' (more extra letters u') ≡ Done d (more extra letters u)) → (o : Outcome Control) → step code count me c t ≡ o → then_on o (exec' n) ≡ Done d u → then_on (step code count me c (more extra letters t)) (exec' n) ≡ Done d (more extra letters u)
+        by k (Done d' u') f e = ap (λ o. then_on o (exec' n)) (step_more code count me extra letters c t d' u' f) ∙ k d' u' e
+        by k (Stopped status s) f e = cc
+
+    -- a longer run comes to the same place
+    pub reaches_more : (inputs : List Message) (k : ℕ) (place : Option Control) (t : State) → Reaches code count me inputs k place t → Reaches code count me (inputs ++ letters) (k + extra) place (more extra letters t)
+    reaches_more inputs k None t e = ap (more extra letters) e
+    reaches_more inputs k (Some c) t r =
+        (r.0, by (started_by code count me (slice_get code.functions code.main) (first_data code count me inputs k)) refl r.1)
+      where
+        by : (o : Outcome Control) → started_by code count me (slice_get code.functions code.main) (first_data code count me inputs k) ≡ o → then_on o (exec' r.0) ≡ Done c t → run_code code count me (inputs ++ letters) (k + extra) r.0 ≡ Done c (more extra letters t)
+        by (Done d u) f e =
+            ap (λ o. then_on o (exec' r.0)) (started_more (slice_get code.functions code.main) (first_data code count me inputs k) d u f) ∙ exec_more r.0 d u c t e
+        by (Stopped status s) f e = cc
+
+  -- what comes of running on from there comes of the run
+  pub goes_on : (inputs : List Message) (k : ℕ) (place : Option Control) (t : State) (j : ℕ) (o : Outcome Control) → Reaches code count me inputs k place t → run_from code count me place j t ≡ o → (steps : ℕ) × (run_code code count me inputs k steps ≡ o)
+  goes_on inputs k None t j o r e = (j, sym (ap (run_from code count me None j) r) ∙ e)
+  goes_on inputs k (Some c) t j o r e = (r.0 + j, run_on inputs k r.0 j ∙ ap (λ o. then_on o (exec' j)) r.1 ∙ e)
