@@ -14,8 +14,9 @@ use Rattle.stack_code.specs.Machine.{Control, open_frame, filled, blocks_of, act
 use Rattle.stack_code.proofs.Law.{act_grows}
 use Rattle.c_compile.specs.Correct.{StandsFor}
 use Rattle.c_process.specs.Runs.{run_from, shown_at, Reaches, StopsAt, Waits}
-use Rattle.c_process.proofs.Runs.{run_on, open_frame_follows, reaches_more, goes_on}
-use Rattle.c_process.proofs.Scripts.{plays, next_goes}
+use Rattle.c_process.proofs.Runs.{open_frame_follows, reaches_more, goes_on}
+use Rattle.c_process.specs.Laws.{run_on}
+use Rattle.c_process.proofs.Scripts.{next_goes}
 
 -- an outcome has made one event after these
 pub record OneMore (before : List Kind) (first : Kind) (s : State) : Type 0 where

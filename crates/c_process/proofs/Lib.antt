@@ -1,3 +1,7 @@
 pub mod Runs
 pub mod Scripts
 pub mod Events
+pub mod Looks
+pub mod Standing
+pub mod Lines
+pub mod Compiled

@@ -15,6 +15,7 @@ use Rattle.stack_code.specs.Law.{more}
 use Rattle.stack_code.specs.Machine.{Control, open_frame, new_frame, filled, blocks_of, step, exec, started_by, first_data, run_code}
 use Rattle.stack_code.proofs.Law.{stopped_stays, step_more}
 use Rattle.c_compile.specs.Correct.{StopsAlike, StandsFor}
+use Rattle.c_process.specs.Laws.{run_on}
 use Rattle.c_process.specs.Runs.{run_from, shown_at, Reaches, StopsAt, StandsAt, Waits}
 
 -- ---- steps
@@ -23,36 +24,8 @@ module _ (code : Code) (count me : ℕ) where
   abbrev exec' : ℕ → Control → Run Control
   exec' n = exec code count me n
 
-  exec_on : (n j : ℕ) (c : Control) (t : State) → exec' (n + j) c t ≡ then_on (exec' n c t) (exec' j)
-  exec_on zero j c t = let e : 0 + j ≡ j = omega arith in ap (λ i. exec' i c t) e
-  exec_on (suc n) j c t =
-      let e : suc n + j ≡ suc (n + j) = omega arith in
-      ap (λ i. exec' i c t) e ∙ by (λ d u. exec_on n j d u) (step code count me c t)
-    where
-      by : ((d : Control) (u : State) → exec' (n + j) d u ≡ then_on (exec' n d u) (exec' j)) → (o : Outcome Control) → then_on o (exec' (n + j)) ≡ then_on (then_on o (exec' n)) (exec' j)
-      by k (Done d u) = k d u
-      by k (Stopped status s) = refl
-
-  then_exec_on : (n j : ℕ) (o : Outcome Control) → then_on o (exec' (n + j)) ≡ then_on (then_on o (exec' n)) (exec' j)
-  then_exec_on n j (Done d u) = exec_on n j d u
-  then_exec_on n j (Stopped status s) = refl
-
-  pub run_on : (inputs : List Message) (k n j : ℕ) → run_code code count me inputs k (n + j) ≡ then_on (run_code code count me inputs k n) (exec' j)
-  run_on inputs k n j = then_exec_on n j (started_by code count me (slice_get code.functions code.main) (first_data code count me inputs k))
-
   abbrev done : Control → State → Outcome Control
   done c t = Done c t
-
-  abbrev pub stopped : Status → State → Outcome Control
-  stopped status s = Stopped status s
-
-  -- a run stops in one state
-  pub stops_once : (inputs : List Message) (k : ℕ) (status status' : Status) (s s' : State) → StopsAt code count me inputs k status s → StopsAt code count me inputs k status' s' → stopped status s ≡ stopped status' s'
-  stops_once inputs k status status' s s' a b =
-      let e : a.0 + b.0 ≡ b.0 + a.0 = omega arith in
-      let left : run_code code count me inputs k (a.0 + b.0) ≡ Stopped status s = run_on inputs k a.0 b.0 ∙ ap (λ o. then_on o (exec' b.0)) a.1 in
-      let right : run_code code count me inputs k (b.0 + a.0) ≡ Stopped status' s' = run_on inputs k b.0 a.0 ∙ ap (λ o. then_on o (exec' a.0)) b.1 in
-      sym left ∙ ap (run_code code count me inputs k) e ∙ right
 
   -- ---- more events and letters
 
@@ -106,4 +79,4 @@ module _ (code : Code) (count me : ℕ) where
   -- what comes of running on from there comes of the run
   pub goes_on : (inputs : List Message) (k : ℕ) (place : Option Control) (t : State) (j : ℕ) (o : Outcome Control) → Reaches code count me inputs k place t → run_from code count me place j t ≡ o → (steps : ℕ) × (run_code code count me inputs k steps ≡ o)
   goes_on inputs k None t j o r e = (j, sym (ap (run_from code count me None j) r) ∙ e)
-  goes_on inputs k (Some c) t j o r e = (r.0 + j, run_on inputs k r.0 j ∙ ap (λ o. then_on o (exec' j)) r.1 ∙ e)
+  goes_on inputs k (Some c) t j o r e = (r.0 + j, run_on code count me inputs k r.0 j ∙ ap (λ o. then_on o (exec' j)) r.1 ∙ e)

@@ -1,2 +1,5 @@
 pub mod Runs
 pub mod Looks
+pub mod Standing
+pub mod Laws
+pub mod Compiled

@@ -1,0 +1,96 @@
+//! A process that runs code.
+
+ghost use Rattle.std.specs.Prelude.{◌≡◌, ◌<◌, ◌≤◌, ℕ, List, [], ◌∷◌, IfOk, IsTrue};
+ghost use Rattle.nm_base.specs.declared.kind.Kind.{Kind as Event};
+ghost use Rattle.nm_base.specs.Message.{Message};
+ghost use Rattle.c_tree.specs.declared.program.Program.{Program};
+ghost use Rattle.c_tree.specs.Play.{script_of};
+ghost use Rattle.stack_code.specs.View.{code_of};
+ghost use Rattle.proc_machine.specs.Pauses.{status_of};
+ghost use Rattle.c_process.specs.Looks.{end_of, look_of, looks_at};
+ghost use Rattle.c_process.specs.Standing.{IsCodeOf, IsAfter, Follows, played, line_after};
+
+use nm_base::{Kind, ProcNo, WantOfMemory};
+use proc_machine::{Machine, Pause};
+use processes::Look;
+use stack_code::Code;
+use std::alloc::Global;
+
+/// A process of a program, by the code of the program: this number of so many processes, after so
+/// many events.
+#[derive(Drop)]
+pub struct CProc<'c> {
+    pub(crate) code: &'c Code,
+    pub(crate) machine: Machine<'c>,
+    pub(crate) me: ProcNo,
+    pub(crate) count: u32,
+    pub(crate) look: Look,
+    pub ghost runs: { machine.code ≡ code_of code.now },
+    pub ghost named: { machine.me ≡ me.no },
+    pub ghost few: { machine.kept.sent ≤ count },
+    pub ghost seen: { IsTrue (looks_at look machine.pause) },
+}
+
+impl<'c> CProc<'c> {
+    /// The process of this number among `n`, before its first event. `me` is below `n`, and `n` is 1 to 32.
+    pub fn new(alloc: Global, code: &'c Code, me: ProcNo, n: u8) -> Result<CProc<'c>, WantOfMemory>
+        requires me { me.no < n }
+        requires few { n ≤ 32 }
+        ensures stands { IfOk result (λ x. (p : Program) → IsCodeOf p (code_of code.now) → Follows x.machine x.look (script_of p n me.no) [] 0) }
+        ensures name { IfOk result (λ x. x.me ≡ me) }
+        ensures count { IfOk result (λ x. x.count ≡ 0) }
+    {
+        let machine = Machine::new(alloc, code, me, n)?;
+        let look = look_at(machine.pending(), Look::Ended { value: 0 });
+        Ok(CProc {
+            code,
+            machine,
+            me,
+            count: 0,
+            look,
+        })
+    }
+
+    /// The bytes that it printed so far.
+    pub fn output(&self) -> &[u8]
+        ensures { (p : Program) (letters : List Message) (k : ℕ) → IsCodeOf p self.now.machine.code → IsAfter self.now.machine self.now.look letters k → result.now ≡ (played p self.now.machine letters k).state.output }
+    {
+        self.machine.output()
+    }
+
+    /// The line at which it is: if its next event is a Line, that event's line, otherwise the line of
+    /// the last Line event of the innermost frame; without a frame the line of `main`'s name.
+    pub fn line(&self) -> u32
+        ensures { (p : Program) (letters : List Message) (k : ℕ) → IsCodeOf p self.now.machine.code → IsAfter self.now.machine self.now.look letters k → result ≡ line_after p self.now.machine letters k }
+    {
+        if let Pause::Line { line } = self.machine.pending() {
+            return line;
+        }
+        if self.machine.frame_count() == 0 {
+            return self.code.main_line();
+        }
+        self.machine.frame(0).line
+    }
+}
+
+/// How a process ended whose last event was of this kind.
+pub(crate) fn end_with(kind: Kind) -> Look
+    ensures { (events : List Event) → result ≡ end_of (kind ∷ events) }
+{
+    match kind {
+        Kind::Ended { value } => Look::Ended { value },
+        Kind::Faulted { cause } => Look::Faulted { cause },
+        _ => Look::Ended { value: 0 },
+    }
+}
+
+/// What a process shows before this pause; where it is over, how it ended.
+pub(crate) fn look_at(pause: Pause, end: Look) -> Look
+    ensures looks { (events : List Event) → end ≡ end_of events → result ≡ look_of (status_of pause) events }
+{
+    match pause {
+        Pause::Receive { set } => Look::Waiting { set },
+        Pause::Done => end,
+        _ => Look::Able,
+    }
+}
