@@ -19,6 +19,7 @@ abbrev pub outside : Around
 outside = record { loop = false; breaks = false }
 
 pub record FunctionFacts (globals : List Global) (functions : List Function) (texts : List (List ℕ)) (f : Function) : Type 0 where
+  pub name : is_name f.name ≡ true
   pub params : list_all param_fits f.params ≡ true
   pub locals : list_all local_fits f.locals ≡ true
   pub few_params : nat_le (length f.params) 31 ≡ true
@@ -48,8 +49,10 @@ module _ (globals : List Global) (functions : List Function) (texts : List (List
       let h3 = both_true (names && params && locals) few h4.0 in
       let h2 = both_true (names && params) locals h3.0 in
       let b = both_true (c.is_block && c.is_fine outside) (blocks_fit (f.params ++ f.locals) (length f.params) 0 c.blocks) h5.1 in
+      let first = both_true names params h2.0 in
       record {
-        params = (both_true names params h2.0).1;
+        name = first.0;
+        params = first.1;
         locals = h2.1;
         few_params = h3.1;
         few_slots = h4.1;

@@ -22,16 +22,12 @@ use Rattle.stack_code.specs.declared.instr.Instr.TheVariants as instr
 use Rattle.stack_code.specs.Code.{FunctionCode, Code}
 use Rattle.c_compile.specs.Asm.{Laid, nothing, one, end_of, ◌⨾◌, lay}
 use Rattle.c_compile.specs.ExprCode.{Shape, expr_code}
+pub use Rattle.c_compile.specs.declared.exits.Exits.{Exits}
 use Rattle.c_compile.specs.Variables.{globals_from, slots_from}
 
 -- the blocks round a statement
 abbrev pub Blocks : Type 0
 Blocks = List (List ℕ)
-
--- where a break and a continue lead to
-pub record Exits : Type 0 where
-  pub breaks : ℕ
-  pub continues : ℕ
 
 pub record StmtCode : Type 0 where
   pub code : Exits → Blocks → Laid
