@@ -160,7 +160,8 @@ main_is code line e = ap (λ o. unwrap_or o 0) e
 -- ---- what is shown
 
 pub looks_played : LooksArePlayed
-looks_played p m look letters k is a =
+looks_played p m look s letters k is f =
+    let a = f.after in
     let run = run_is p m look letters k is a in
     let made = shown_made m.code m.count m.me m.place (data_in m a.events 0) in
     a.looks ∙ ap (look_of (status_of m.pause)) (sym made) ∙ sym (ap (λ o. look_of (played_of o).status (played_of o).state.events) run)

@@ -3,16 +3,17 @@
 ghost use Rattle.std.specs.Prelude.{◌≡◌, ◌<◌, ◌≤◌, ℕ, List, [], ◌∷◌, IfOk, IsTrue};
 ghost use Rattle.nm_base.specs.declared.kind.Kind.{Kind as Event};
 ghost use Rattle.nm_base.specs.Message.{Message};
+ghost use Rattle.nm_base.specs.Scripts.{Script};
 ghost use Rattle.c_tree.specs.declared.program.Program.{Program};
 ghost use Rattle.c_tree.specs.Play.{script_of};
 ghost use Rattle.stack_code.specs.View.{code_of};
 ghost use Rattle.proc_machine.specs.Pauses.{status_of};
 ghost use Rattle.c_process.specs.Looks.{end_of, look_of, looks_at};
-ghost use Rattle.c_process.specs.Standing.{IsCodeOf, IsAfter, Follows, played, line_after};
+ghost use Rattle.c_process.specs.Standing.{IsCodeOf, played, line_after};
 
 use nm_base::{Kind, ProcNo, WantOfMemory};
 use proc_machine::{Machine, Pause};
-use processes::Look;
+use processes::{Look, Proc};
 use stack_code::Code;
 use std::alloc::Global;
 
@@ -36,9 +37,9 @@ impl<'c> CProc<'c> {
     pub fn new(alloc: Global, code: &'c Code, me: ProcNo, n: u8) -> Result<CProc<'c>, WantOfMemory>
         requires me { me.no < n }
         requires few { n ≤ 32 }
-        ensures stands { IfOk result (λ x. (p : Program) → IsCodeOf p (code_of code.now) → Follows x.machine x.look (script_of p n me.no) [] 0) }
-        ensures name { IfOk result (λ x. x.me ≡ me) }
-        ensures count { IfOk result (λ x. x.count ≡ 0) }
+        ensures stands { IfOk result (λ x. (p : Program) → IsCodeOf p (code_of code.now) → ⟦<CProc<'c> as Proc>⟧.stands_for x (script_of p n me.no) [] 0) }
+        ensures name { IfOk result (λ x. ⟦<CProc<'c> as Proc>⟧.name_of x ≡ me) }
+        ensures count { IfOk result (λ x. ⟦<CProc<'c> as Proc>⟧.count_of x ≡ 0) }
     {
         let machine = Machine::new(alloc, code, me, n)?;
         let look = look_at(machine.pending(), Look::Ended { value: 0 });
@@ -53,7 +54,7 @@ impl<'c> CProc<'c> {
 
     /// The bytes that it printed so far.
     pub fn output(&self) -> &[u8]
-        ensures { (p : Program) (letters : List Message) (k : ℕ) → IsCodeOf p self.now.machine.code → IsAfter self.now.machine self.now.look letters k → result.now ≡ (played p self.now.machine letters k).state.output }
+        ensures { (p : Program) (s : Script) (letters : List Message) (k : ℕ) → IsCodeOf p self.now.machine.code → ⟦<CProc<'c> as Proc>⟧.stands_for self.now s letters k → result.now ≡ (played p self.now.machine letters k).state.output }
     {
         self.machine.output()
     }
@@ -61,7 +62,7 @@ impl<'c> CProc<'c> {
     /// The line at which it is: if its next event is a Line, that event's line, otherwise the line of
     /// the last Line event of the innermost frame; without a frame the line of `main`'s name.
     pub fn line(&self) -> u32
-        ensures { (p : Program) (letters : List Message) (k : ℕ) → IsCodeOf p self.now.machine.code → IsAfter self.now.machine self.now.look letters k → result ≡ line_after p self.now.machine letters k }
+        ensures { (p : Program) (s : Script) (letters : List Message) (k : ℕ) → IsCodeOf p self.now.machine.code → ⟦<CProc<'c> as Proc>⟧.stands_for self.now s letters k → result ≡ line_after p self.now.machine letters k }
     {
         if let Pause::Line { line } = self.machine.pending() {
             return line;

@@ -14,4 +14,4 @@ returns-clause-stands c = λ p is.
     let looks = c.look_at-look.ensures.looks [] refl ∙ ap (λ q. look_of (status_of q) []) c.pending.ensures.same in
     let start = begins m c.look_at-look.result p ok.goes c.pending.ensures.paused ok.begins looks (subst (IsCodeOf p) (sym ok.code) is) in
     let script : script_of p m.count m.me ≡ script_of p c.args.n c.args.me.no = ap (λ n. script_of p n m.me) ok.count ∙ ap (script_of p c.args.n) ok.me in
-    subst (λ (s : Script). Follows m c.look_at-look.result s [] 0) script start
+    (subst (λ (s : Script). Follows m c.look_at-look.result s [] 0) script start, refl)
