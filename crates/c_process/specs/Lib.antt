@@ -3,3 +3,4 @@ pub mod Looks
 pub mod Standing
 pub mod Laws
 pub mod Compiled
+pub mod Examples
