@@ -1,6 +1,6 @@
 -- What a name denotes at a place, by what is kept of the blocks there.
 use Rattle.std.proofs.Common.{◌≡◌, ℕ, zero, suc, ◌<◌, ◌≤◌, Bool, true, false, List, [], ◌∷◌, length, map, take, drop, get_or, Option, Some, None, refl, sym, ap, ◌∙◌, subst, arith}
-use Rattle.std.specs.Prelude.{slice_get, IsTrue, ◌&&◌, ◌==◌, nat_le, not, option_map}
+use Rattle.std.specs.Prelude.{slice_get, IsTrue, ◌&&◌, ◌==◌, nat_le, not, is_none, option_map}
 use Rattle.std.specs.List.{list_all}
 use Rattle.std.proofs.lemmas.Bool.{leb-true, eqb-true}
 use Rattle.stack_code.specs.declared.code.Variable.{Variable}
@@ -16,7 +16,7 @@ pub both : (a b : Bool) → (a && b) ≡ true → (a ≡ true) × (b ≡ true)
 both true b h = (refl, h)
 both false b h = cc
 
-got : {A : Type 0} (xs : List A) (k : ℕ) (x : A) → k < length xs → x ≡ get_or xs k x → slice_get xs k ≡ Some x
+pub got : {A : Type 0} (xs : List A) (k : ℕ) (x : A) → k < length xs → x ≡ get_or xs k x → slice_get xs k ≡ Some x
 got [] k x lt e = absurd (omega (arith, lt))
 got (y ∷ ys) zero x lt e = ap Some (sym e)
 got (y ∷ ys) (suc k) x lt e = got ys k x (omega (arith, lt)) e
@@ -100,7 +100,9 @@ module _ (functions : List CodeFunction) (main : ℕ) (texts : List (List ℕ)) 
         let laid = laid_out_from 0 f.slots.items in
         let params = f.param_words == words_of_all (take f.param_count f.slots.items) in
         let frame = f.frame_words == words_of_all f.slots.items in
-        let h3 = (both (few && locals && laid && params) frame fit).0 in
+        let plain = list_all (λ (x : Variable). is_none x.length) (take f.param_count f.slots.items) in
+        let h4 = (both (few && locals && laid && params && frame) plain fit).0 in
+        let h3 = (both (few && locals && laid && params) frame h4).0 in
         let h2 = (both (few && locals && laid) params h3).0 in
         let h1 = (both (few && locals) laid h2).0 in
         leb-true f.param_count (length f.slots.items) (both few locals h1).0

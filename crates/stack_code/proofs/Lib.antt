@@ -5,3 +5,4 @@ pub mod Forward
 pub mod Seeks
 pub mod Tables
 pub mod Founds
+pub mod Fetched

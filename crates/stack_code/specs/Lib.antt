@@ -6,3 +6,4 @@ pub mod Blocks
 pub mod Valid
 pub mod Seek
 pub mod View
+pub mod Frame

@@ -175,6 +175,7 @@ is_fit_function f =
     && laid_out_from 0 f.slots
     && f.param_words == words_of_all (params_of f)
     && f.frame_words == words_of_all f.slots
+    && list_all (λ x. is_none x.length) (params_of f)
 
 -- main has no parameters
 abbrev pub is_main : Option FunctionCode → Bool

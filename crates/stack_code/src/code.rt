@@ -9,6 +9,17 @@ use crate::instr::Instr;
 use crate::seek::{CodePlace, Found, global_found, local_found, local_named, named};
 use nm_base::{Bytes, Ctype, List};
 
+/// What the call of a function needs to know of it.
+#[derive(Clone, Copy, Debug, PartialEq, Eq)]
+pub struct FunctionFrame {
+    /// The line of its name.
+    pub line: u32,
+    /// How many operands a call takes: 1 for a scalar parameter, 2 for an array parameter.
+    pub param_words: u32,
+    /// The words of a frame, those of the parameters first.
+    pub frame_words: u32,
+}
+
 /// A block, by the number of the one round it and its locals' slots. Blocks are numbered from 1,
 /// each after the one round it; 0 is outside all blocks.
 #[derive(Drop)]
@@ -62,9 +73,11 @@ pub struct Code {
 }
 
 impl Code {
-    ghost use Rattle.std.specs.Prelude.{◌≡◌, ◌<◌, length, map, Some, slice_get, string_bytes, option_map};
+    ghost use Rattle.std.specs.Prelude.{◌≡◌, ℕ, ◌<◌, ◌≤◌, length, map, Some, slice_get, string_bytes, option_map};
     ghost use Rattle.stack_code.specs.View.{code_of};
     ghost use Rattle.stack_code.specs.Seek.{found, found_at, found_global, IsPlaceIn};
+    ghost use Rattle.stack_code.specs.Code.{steps_of};
+    ghost use Rattle.stack_code.specs.Frame.{frame_of};
 
     /// Keeps its parts, which must be valid.
     pub fn new(
@@ -108,6 +121,63 @@ impl Code {
         ensures { option_map (λ f. f.line) (slice_get (code_of self.now).functions (code_of self.now).main) ≡ Some result }
     {
         self.functions[self.main as usize].line
+    }
+
+    /// The number of `main`.
+    pub fn main(&self) -> u32
+        ensures { result ≡ (code_of self.now).main }
+    {
+        self.main
+    }
+
+    /// The words of the globals at the start.
+    pub fn globals(&self) -> &[u32]
+        ensures { result.now ≡ (code_of self.now).globals }
+    {
+        self.globals.as_slice()
+    }
+
+    /// The bytes of a text of `printf`; `i` is below the number of texts.
+    pub fn text(&self, i: u32) -> &[u8]
+        requires { i < length (code_of self.now).texts }
+        ensures { slice_get (code_of self.now).texts i ≡ Some result.now }
+    {
+        self.texts.as_slice()[i as usize].as_slice()
+    }
+
+    /// What a call of a function needs; `i` is below `functions`.
+    pub fn frame(&self, i: u32) -> FunctionFrame
+        requires { i < length (code_of self.now).functions }
+        ensures { option_map frame_of (slice_get (code_of self.now).functions i) ≡ Some result }
+    {
+        let function = &self.functions[i as usize];
+        FunctionFrame {
+            line: function.line,
+            param_words: function.param_words,
+            frame_words: function.frame_words,
+        }
+    }
+
+    /// An instruction of a function; there is one at that place.
+    pub fn instr(&self, function: u32, place: u32) -> Instr
+        requires { place < length (steps_of (code_of self.now) function) }
+        ensures { option_map (λ x. x.instr) (slice_get (steps_of (code_of self.now) function) place) ≡ Some result }
+    {
+        self.functions[function as usize].instrs[place as usize]
+    }
+
+    /// At least as many as any function has instructions.
+    pub fn longest(&self) -> usize
+        ensures { (f : ℕ) → length (steps_of (code_of self.now) f) ≤ result }
+    {
+        let mut longest = 0;
+        for function in &self.functions {
+            let len = function.instrs.len();
+            if longest < len {
+                longest = len;
+            }
+        }
+        longest
     }
 
     /// What a name denotes. With a place it looks in the blocks of that function that are entered at

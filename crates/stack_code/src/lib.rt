@@ -8,7 +8,7 @@ mod code;
 mod instr;
 mod seek;
 
-pub use code::{Block, Code, CodeFunction, Variable};
+pub use code::{Block, Code, CodeFunction, FunctionFrame, Variable};
 pub use instr::Instr;
 pub use seek::{CodePlace, Found, Home};
 

@@ -1,0 +1,14 @@
+pub mod Upper
+pub mod Prints
+pub mod Calling
+pub mod Counts
+pub mod Sending
+pub mod Moving
+pub mod OfKinds
+pub mod Advancing
+pub mod Readiness
+pub mod Stepping
+pub mod Running
+pub mod Starting
+pub mod Sets
+pub mod Standings

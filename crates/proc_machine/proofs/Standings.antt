@@ -1,0 +1,149 @@
+-- Where a machine stands, and how it goes on.
+use Rattle.std.proofs.Common.{◌≡◌, ◌≢◌, ℕ, zero, suc, ◌+◌, Bool, true, false, List, [], ◌∷◌, ◌++◌, length, Option, Some, None, refl, sym, ap, ◌∙◌, subst, arith}
+use Rattle.std.proofs.Math.Logic.{∥∥₁_elim, ∥∥₁_map}
+use Rattle.std.specs.Prelude.{slice_get, nat_le, option_map}
+use Rattle.std.proofs.lemmas.List.{append-nil}
+use Rattle.nm_base.specs.declared.kind.Kind.{Kind}
+use Rattle.nm_base.specs.declared.kind.Kind.TheVariants as kind
+use Rattle.nm_base.specs.declared.kind.FaultCause.TheVariants.{DataFull}
+use Rattle.nm_base.specs.Message.{Message, message_of}
+use Rattle.c_tree.specs.State.{State, Status, Able, Wants, Over, Outcome, Done, Stopped, Run, change, then_on}
+use Rattle.c_tree.specs.Expr.{demand}
+use Rattle.stack_code.specs.Code.{FunctionCode, Code}
+use Rattle.stack_code.specs.Law as law
+use Rattle.stack_code.specs.Machine.{Control, filled, blocks_of, step, exec, started_by, open_frame, new_frame, first_data, run_code}
+use Rattle.stack_code.proofs.Law.{step_more}
+use Rattle.proc_machine.specs.declared.execution.Execution.{Execution}
+use Rattle.proc_machine.specs.declared.pause.Pause.{Pause}
+use Rattle.proc_machine.specs.declared.pause.Pause.TheVariants as pause
+use Rattle.proc_machine.specs.Pauses.{status_of, pause_by}
+use Rattle.proc_machine.specs.View.{control_of, data_with}
+use Rattle.proc_machine.specs.Run.{Reaches, StandsBefore}
+use Rattle.proc_machine.specs.Standing.{IsTooLarge, IsKept, shown_state, stand, ComesTo}
+use Rattle.proc_machine.proofs.Running.{exec_more}
+use Rattle.proc_machine.proofs.Sets.{Outcome-set, Status-set, Pause-set}
+
+module _ (code : Code) (count me : ℕ) where
+  abbrev run : List Message → ℕ → ℕ → Outcome Control
+  run inputs k n = run_code code count me inputs k n
+
+  -- ---- longer runs
+
+  pub run_on : (inputs : List Message) (k n m : ℕ) (c : Control) (s : State) → run inputs k n ≡ Done c s → run inputs k (n + m) ≡ exec code count me m c s
+  run_on inputs k n m c s e = by (started_by code count me (slice_get code.functions code.main) (first_data code count me inputs k)) e
+    where
+      by : (o : Outcome Control) → then_on o (exec code count me n) ≡ Done c s → then_on o (exec code count me (n + m)) ≡ exec code count me m c s
+      by (Done x v) h = exec_more code count me n x v c s m h
+      by (Stopped status v) h = cc
+
+  module _ (letters : List Message) where
+    abbrev more : State → State
+    more s = law.more 1 letters s
+
+    exec_further : (n : ℕ) (c : Control) (s : State) (d : Control) (u : State) → exec code count me n c s ≡ Done d u → exec code count me n c (more s) ≡ Done d (more u)
+    exec_further zero c s d u e =
+        let place : c ≡ d = cc in
+        let same : s ≡ u = cc in
+        ap (λ x. Done x (more s)) place ∙ ap (λ x. Done d (more x)) same
+    exec_further (suc n) c s d u e = by (step code count me c s) refl (λ x v f. exec_further n x v d u f) e
+      where
+        by : (o : Outcome Control) → step code count me c s ≡ o → ((x : Control) (v : State) → exec code count me n x v ≡ Done d u → exec code count me n x (more v) ≡ Done d (more u)) → then_on o (exec code count me n) ≡ Done d u → then_on (step code count me c (more s)) (exec code count me n) ≡ Done d (more u)
+        by (Done x v) f k e = ap (λ o. then_on o (exec code count me n)) (step_more code count me 1 letters c s x v f) ∙ k x v e
+        by (Stopped status v) f k e = cc
+
+    abbrev start : Control
+    start = record { function = code.main; pc = 0; stack = []; callers = [] }
+
+    -- the call of main, where this says whether there is room
+    abbrev begun_by : FunctionCode → Bool → State → Outcome Control
+    begun_by f b s = then_on (then_on (demand b DataFull s) (λ _. change (new_frame code.main f.line f.frame_words []))) (λ _ t. Done start t)
+
+    never_begun : (f : FunctionCode) (n j : ℕ) (inputs : List Message) (d : Control) (u : State) → then_on (begun_by f false (first_data code count me inputs j)) (exec code count me n) ≡ Done d u → ⊥
+    never_begun f n zero inputs d u e = cc
+    never_begun f n (suc j) inputs d u e = cc
+
+    one_more : (k : ℕ) → k + 1 ≡ suc k
+    one_more k = omega arith
+
+    begun_further : (f : FunctionCode) (b : Bool) (inputs : List Message) (k n : ℕ) (d : Control) (u : State) → then_on (begun_by f b (first_data code count me inputs k)) (exec code count me n) ≡ Done d u → then_on (begun_by f b (first_data code count me (inputs ++ letters) (suc k))) (exec code count me n) ≡ Done d (more u)
+    begun_further f true inputs k n d u e =
+        ap (λ j. exec code count me n start (new_frame code.main f.line f.frame_words [] (first_data code count me (inputs ++ letters) j))) (sym (one_more k))
+        ∙ exec_further n start (new_frame code.main f.line f.frame_words [] (first_data code count me inputs k)) d u e
+    begun_further f false inputs k n d u e = absurd (never_begun f n k inputs d u e)
+
+    main_further : (o : Option FunctionCode) (inputs : List Message) (k n : ℕ) (d : Control) (u : State) → then_on (started_by code count me o (first_data code count me inputs k)) (exec code count me n) ≡ Done d u → then_on (started_by code count me o (first_data code count me (inputs ++ letters) (suc k))) (exec code count me n) ≡ Done d (more u)
+    main_further None inputs k n d u e =
+        ap (λ j. exec code count me n start (first_data code count me (inputs ++ letters) j)) (sym (one_more k)) ∙ exec_further n start (first_data code count me inputs k) d u e
+    main_further (Some f) inputs k n d u e = begun_further f (nat_le (length code.globals + f.frame_words) 65536) inputs k n d u e
+
+    -- the same run, with one more event and more letters to come
+    pub run_further : (inputs : List Message) (k n : ℕ) (d : Control) (u : State) → run inputs k n ≡ Done d u → run (inputs ++ letters) (suc k) n ≡ Done d (more u)
+    run_further inputs k n d u e = main_further (slice_get code.functions code.main) inputs k n d u e
+
+  -- ---- one more step
+
+  end_of : (o : Outcome Control) → then_on o (exec code count me 0) ≡ o
+  end_of (Done d u) = refl
+  end_of (Stopped status u) = refl
+
+  pub one_step : (inputs : List Message) (k n : ℕ) (c : Control) (s : State) → run inputs k n ≡ Done c s → run inputs k (n + 1) ≡ step code count me c s
+  one_step inputs k n c s e = run_on inputs k n 1 c s e ∙ end_of (step code count me c s)
+
+  -- ---- no room for main
+
+  module _ (e : Execution) (large : IsTooLarge code e) where
+    abbrev f : FunctionCode
+    f = large.main
+
+    first_is : (inputs : List Message) (k n : ℕ) → run inputs k n ≡ then_on (begun_by [] f false (first_data code count me inputs k)) (exec code count me n)
+    first_is inputs k n =
+        ap (λ o. then_on (started_by code count me o (first_data code count me inputs k)) (exec code count me n)) large.is
+        ∙ ap (λ b. then_on (begun_by [] f b (first_data code count me inputs k)) (exec code count me n)) large.full
+
+    pub large_stops : (inputs : List Message) (n : ℕ) → run inputs 0 n ≡ Stopped Able (first_data code count me inputs 0)
+    large_stops inputs n = first_is inputs 0 n
+
+    pub large_ends : (inputs : List Message) (k n : ℕ) → run inputs (suc k) n ≡ Stopped Over (record (first_data code count me inputs k) { events = kind.Faulted DataFull ∷ [] })
+    large_ends inputs k n = first_is inputs (suc k) n
+
+    pub large_data : (events : List Kind) → record (data_with e events 0) { frames = [] } ≡ record (first_data code count me [] 0) { events = events }
+    large_data events =
+        let fresh = large.fresh in
+        ap (λ w. record { words = w; frames = []; letter = option_map message_of e.letter; output = e.output.items; inputs = []; events = events; left = 0; sent = e.sent }) fresh.words
+        ∙ ap (λ l. record { words = code.globals; frames = []; letter = option_map message_of l; output = e.output.items; inputs = []; events = events; left = 0; sent = e.sent }) fresh.letter
+        ∙ ap (λ o. record { words = code.globals; frames = []; letter = None; output = o; inputs = []; events = events; left = 0; sent = e.sent }) fresh.output
+        ∙ ap (λ n. record { words = code.globals; frames = []; letter = None; output = []; inputs = []; events = events; left = 0; sent = n }) fresh.sent
+
+  -- ---- what a machine knows of where it stands
+
+  abbrev Kept : Execution → Bool → Pause → Type 0
+  Kept e b n = ∥ IsKept code count me e b n ∥₁
+
+  abbrev Comes : Execution → Bool → Pause → List Message → List Kind → Type 0
+  Comes e b n inputs events = ComesTo code count me e b n inputs events
+
+  -- with no more events it stops there
+  record_of : (inputs : List Message) (events : List Kind) (status : Status) (s : State) (n : ℕ) → run inputs (length events) n ≡ Stopped status s → (steps : ℕ) × (run inputs (length events) steps ≡ Stopped status s)
+  record_of inputs events status s n h = (n, h)
+
+  module _ (e : Execution) (inputs : List Message) (events : List Kind) where
+    abbrev Stops : Bool → Pause → Type 0
+    Stops b n = (steps : ℕ) × (run inputs (length events) steps ≡ Stopped (status_of n) (shown_state code count me e b events))
+
+    stops_begun : (n : Pause) → (steps : ℕ) → run inputs (length events) steps ≡ Done (control_of e) (data_with e events 0) → step code count me (control_of e) (data_with e events 0) ≡ Stopped (status_of n) (shown_state code count me e true events) → Stops true n
+    stops_begun n steps h s = (steps + 1, one_step inputs (length events) steps (control_of e) (data_with e events 0) h ∙ s)
+
+    pub stops : (b : Bool) (n : Pause) → Kept e b n → Comes e b n inputs events → Stops b n
+    stops true pause.Done k c = (c.steps, c.comes)
+    stops false pause.Done k c = (c.steps, c.comes)
+    stops true n k c = stops_begun n c.steps c.comes (∥∥₁_elim k (Outcome-set _ _) (λ h. h.1.stops events))
+    stops false n k c = (c.steps, c.comes ∙ ap (λ x. Stopped x (shown_state code count me e false events)) (∥∥₁_elim k (Status-set _ _) (λ h. ap status_of (sym h.0))))
+
+    abbrev MakesIt : Pause → Type 0
+    MakesIt n = (steps : ℕ) × (pause_by (run inputs (suc (length events)) steps) ≡ Some n)
+
+    makes_begun : (n : Pause) → (steps : ℕ) → run inputs (length events) steps ≡ Done (control_of e) (data_with e events 0) → pause_by (step code count me (control_of e) (data_with e events 1)) ≡ Some n → MakesIt n
+    makes_begun n steps h s =
+        let further = run_further [] inputs (length events) steps (control_of e) (data_with e events 0) h in
+        let none : inputs ++ [] ≡ inputs = append-nil inputs in
+        (steps + 1, ap pause_by (ap (λ l. run l (suc (length events)) (steps + 1)) (sym none) ∙ one_step (inputs ++ []) (suc (length events)) steps (control_of e) (data_with e events 1) further) ∙ s)

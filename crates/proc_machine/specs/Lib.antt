@@ -1,0 +1,10 @@
+pub mod Callers
+pub mod Pauses
+pub mod Ready
+pub mod Stacked
+pub mod View
+pub mod Sound
+pub mod Run
+pub mod Standing
+pub mod Start
+pub mod Machines

@@ -1,0 +1,28 @@
+-- Operands of calls that stand one on the other.
+use Rattle.std.specs.Prelude.{ℕ, ◌-◌, ◌<◌, ◌≤◌, List, [], ◌∷◌, length, take, drop}
+use Rattle.proc_machine.specs.declared.callers.Caller.{Caller}
+
+-- the operands above the lowest so many, the topmost first, and those lowest ones
+abbrev pub upper : ℕ → List ℕ → List ℕ
+upper below operands = take (length operands - below) operands
+
+abbrev pub lower : ℕ → List ℕ → List ℕ
+lower below operands = drop (length operands - below) operands
+
+-- the operands of the function that runs and those of its callers, the topmost first, and how many there may be
+pub record OperandStack : Type 0 where
+  pub own : List ℕ
+  pub outer : List ℕ
+  pub limit : ℕ
+
+-- the operands, and the callers, the innermost first; each function has at most so many operands
+pub record Calls : Type 0 where
+  pub own : List ℕ
+  pub outer : List ℕ
+  pub callers : List Caller
+  pub height : ℕ
+
+-- The operands of the callers stand one on the other with nothing below them, and each has room for one more.
+abbrev pub Fits : ℕ → List Caller → List ℕ → Type 0
+Fits height [] outer = length outer ≤ 0
+Fits height (k ∷ ks) outer = (length (upper k.below outer) < height) × Fits height ks (lower k.below outer)

@@ -1,0 +1,145 @@
+//! The machine.
+
+ghost use Rattle.proc_machine.specs.Standing.{IsKept};
+ghost use Rattle.stack_code.specs.View.{code_of};
+
+use crate::execution::{Execution, Setting};
+use crate::pause::Pause;
+use nm_base::{FaultCause, Kind, Letter, ProcNo, WantOfMemory};
+use stack_code::{Code, CodePlace, Instr};
+use std::alloc::Global;
+
+/// A process that runs code, just before an event.
+#[derive(Drop)]
+pub struct Machine<'c> {
+    pub(crate) setting: Setting<'c>,
+    pub(crate) execution: Execution,
+    /// Whether there was room for a frame of `main`.
+    pub(crate) begun: bool,
+    pub(crate) next: Pause,
+    ghost kept: { ∥ IsKept (code_of setting.code.now) setting.count setting.me.no execution begun next ∥₁ },
+}
+
+/// A frame: the instruction at which it stands, for an outer frame its Call; the place of its slot
+/// 0; and the line of its last Line event, before the first that of its function's name.
+#[derive(Clone, Copy, Debug, PartialEq, Eq)]
+pub struct MachineFrame {
+    pub at: CodePlace,
+    pub base: u32,
+    pub line: u32,
+}
+
+impl<'c> Machine<'c> {
+    ghost use Rattle.std.specs.Prelude.{◌≡◌, ℕ, ◌+◌, ◌<◌, ◌≤◌, ◌^◌, List, [], ◌∷◌, ◌++◌, length, replicate, slice_get, slice_index, Some, option_map, IsTrue, IfOk, IfSome, OnOk, OnErr};
+    ghost use Rattle.nm_base.specs.declared.kind.Kind.{Kind};
+    ghost use Rattle.nm_base.specs.declared.kind.Kind.TheVariants as kind;
+    ghost use Rattle.nm_base.specs.Message.{Message, message_of};
+    ghost use Rattle.nm_base.specs.Scripts.{message_sent};
+    ghost use Rattle.nm_base.specs.Channels.{has_channel};
+    ghost use Rattle.proc_machine.specs.declared.pause.Pause.TheVariants as pause;
+    ghost use Rattle.proc_machine.specs.Pauses.{pause_of};
+    ghost use Rattle.proc_machine.specs.Standing.{goes_by_itself};
+    ghost use Rattle.proc_machine.specs.Machines.{StandsFor, Expects, MakesNext, IsSame, setting_of, next_of, state_of, frames_of, spare_output, letters_sent};
+
+    /// A machine that runs the code as process `me` of `n`, just before its first event. It reserves
+    /// the memory for data, frames and operands. Conditions: `me` is below `n`, and `n` is 1 to 32.
+    pub fn new(
+        alloc: Global,
+        code: &'c Code,
+        me: ProcNo,
+        n: u8,
+    ) -> Result<Machine<'c>, WantOfMemory>
+        requires known { me.no < n }
+        requires few { n ≤ 32 }
+        ensures setting { IfOk result (λ m. setting_of m ≡ record { code = code_of code.entry.now; count = n; me = me }) }
+        ensures stands { IfOk result (λ m. StandsFor m [] []) }
+        ensures sent { IfOk result (λ m. letters_sent m ≡ 0) }
+    {
+        let setting = Setting { code, me, count: n };
+        let mut execution = Execution::fresh(alloc, code)?;
+        if !execution.call_main(code) {
+            return Ok(Machine {
+                setting,
+                execution,
+                begun: false,
+                next: Pause::Fault {
+                    cause: FaultCause::DataFull,
+                },
+            });
+        }
+        let next = execution.run(setting);
+        Ok(Machine {
+            setting,
+            execution,
+            begun: true,
+            next,
+        })
+    }
+
+    /// What it does next.
+    pub fn pending(&self) -> Pause
+        ensures same { result ≡ next_of self.now }
+        ensures stops { (inputs : List Message) (events : List Kind) → StandsFor self.now inputs events → Expects (setting_of self.now) inputs events result (state_of self.now events) }
+        ensures next { (inputs : List Message) (events : List Kind) → StandsFor self.now inputs events → MakesNext (setting_of self.now) inputs events result }
+    {
+        self.next
+    }
+
+    /// The output so far.
+    pub fn output(&self) -> &[u8]
+        ensures { result.now ≡ (state_of self.now []).output }
+    {
+        self.execution.output.as_slice()
+    }
+
+    /// A word of the globals or of a live frame, by its place.
+    pub fn word(&self, place: u32) -> u32
+        requires { place < length (state_of self.now []).words }
+        ensures { result ≡ slice_index (state_of self.now []).words place }
+    {
+        self.execution.words.get(u64::from(place))
+    }
+
+    /// How many calls haven't returned.
+    pub fn frame_count(&self) -> u32
+        ensures { result ≡ length (frames_of self.now) }
+    {
+        if self.begun {
+            self.execution.calls.callers() as u32 + 1
+        } else {
+            0
+        }
+    }
+
+    /// The frame of that number, 0 the innermost; `i` is below `frame_count`.
+    pub fn frame(&self, i: u32) -> MachineFrame
+        requires { i < length (frames_of self.now) }
+        ensures { slice_get (frames_of self.now) i ≡ Some result }
+    {
+        let frame = if i == 0 {
+            self.execution.frame
+        } else {
+            self.execution.calls.caller(i as usize - 1).frame
+        };
+        MachineFrame {
+            at: CodePlace {
+                function: frame.function,
+                place: frame.place,
+            },
+            base: frame.base,
+            line: frame.line,
+        }
+    }
+
+    /// Makes room for what one print adds to the output: 4,096 bytes.
+    pub fn reserve_output(&mut self, _alloc: Global) -> Result<(), WantOfMemory>
+        ensures ok { OnOk result (4096 ≤ spare_output self.new) }
+        ensures same { IsSame self.old self.new }
+        ensures stands { (inputs : List Message) (events : List Kind) → StandsFor self.old inputs events → StandsFor self.new inputs events }
+    {
+        self.execution
+            .output
+            .reserve(4096)
+            .map_err(|_| WantOfMemory)
+    }
+}
