@@ -157,6 +157,14 @@ locals_only [] (x ∷ ls) base h =
     and_true _ _ (both_true _ (not x.array_param) b.0).1 (locals_only [] ls (base + words_of_slot x) b.1)
 locals_only (p ∷ ps) ls base h = locals_only ps ls (base + words_of_slot p) h
 
+-- no parameter has a length of its own
+params_only : (ps : List Slot) (base : ℕ) → list_all param_fits ps ≡ true → list_all (λ x. is_none x.length) (slots_from base ps) ≡ true
+params_only [] base h = refl
+params_only (x ∷ xs) base h =
+    let b = both_true (param_fits x) (list_all param_fits xs) h in
+    let parts = both_true (is_name x.name && is_none x.length) (x.block == 0) b.0 in
+    and_true _ _ (both_true (is_name x.name) (is_none x.length) parts.0).1 (params_only xs (base + words_of_slot x) b.1)
+
 module _ (globals : List Global) (functions : List Function) (texts : List (List ℕ)) where
   abbrev compiled : Function → FunctionCode
   compiled f = function_code globals functions texts f
@@ -171,7 +179,9 @@ module _ (globals : List Global) (functions : List Function) (texts : List (List
       let few : length f.params ≤ length (slots_from 0 (slots_of f)) = omega (arith, count, length-append f.params f.locals) in
       let params : words_of words_of_slot f.params ≡ words_of_all (params_of (compiled f)) = sym (ap words_of_all (params_are f) ∙ slots_words f.params 0) in
       let frame : words_of words_of_slot (slots_of f) ≡ words_of_all (slots_from 0 (slots_of f)) = sym (slots_words (slots_of f) 0) in
-      and_true _ _ (and_true _ _ (and_true _ _ (and_true _ _ (le-leb _ _ few) (locals_only f.params f.locals 0 facts.locals)) (slots_laid (slots_of f) 0)) (eq-eqb _ _ params)) (eq-eqb _ _ frame)
+      let no_lengths : list_all (λ x. is_none x.length) (params_of (compiled f)) ≡ true = ap (list_all (λ x. is_none x.length)) (params_are f) ∙ params_only f.params 0 facts.params in
+      let laid = and_true _ _ (and_true _ _ (le-leb _ _ few) (locals_only f.params f.locals 0 facts.locals)) (slots_laid (slots_of f) 0) in
+      and_true _ _ (and_true _ _ (and_true _ _ laid (eq-eqb _ _ params)) (eq-eqb _ _ frame)) no_lengths
 
   fit_functions : (fs : List Function) → list_all (check.function_fits globals functions texts) fs ≡ true → list_all is_fit_function (map compiled fs) ≡ true
   fit_functions [] h = refl

@@ -6,3 +6,4 @@ pub mod Correct
 pub mod Emitted
 pub mod Body
 pub mod Sound
+pub mod Told

@@ -8,6 +8,7 @@ ghost use Rattle.stack_code.specs.View.{code_of};
 ghost use Rattle.c_compile.specs.Variables.{globals_from};
 ghost use Rattle.c_compile.specs.StmtCode.{function_code, program_code};
 ghost use Rattle.c_compile.specs.Correct.{StandsFor};
+ghost use Rattle.c_compile.specs.Told.{TellsNames};
 
 use crate::body::add;
 use crate::function::emit_function;
@@ -26,6 +27,7 @@ use std::alloc::Global;
 pub fn compile(alloc: Global, p: &Program) -> Result<Code, WantOfMemory>
     ensures code { IfOk result (λ code. code_of code ≡ program_code p.now.globals p.now.functions p.now.texts p.now.main) }
     ensures stands { IfOk result (λ code. (count me : ℕ) → StandsFor (setting_of p.now count me) (code_of code)) }
+    ensures names { IfOk result (λ code. TellsNames p.now (code_of code)) }
 {
     let variables = global_variables(alloc, p.globals.as_slice())?;
     let functions = emit_functions(alloc, p, variables.as_slice())?;

@@ -6,13 +6,12 @@ use Rattle.nm_base.specs.declared.kind.Kind.{Kind}
 use Rattle.nm_base.specs.declared.kind.Kind.TheVariants.{Sent, Accepted}
 use Rattle.nm_base.specs.declared.letter.LetterId.{LetterId}
 use Rattle.c_tree.specs.declared.thin.Statement.{Statement}
-use Rattle.nm_base.specs.Channels.{has_channel}
 use Rattle.nm_base.specs.Message.{Message, same_name}
 use Rattle.nm_base.specs.Scripts.{message_sent}
 use Rattle.c_tree.specs.ThinMeaning.{sent_by}
 use Rattle.nm_top.specs.declared.step.Step.{Step}
 use Rattle.nm_top.specs.declared.step.Step.TheVariants.{Plain, Sends, Waits, Over}
-use Rattle.nm_top.specs.Runs.{Event, count, accepted_in, accepted, sent, waiting, with_event, may_take}
+use Rattle.nm_top.specs.Runs.{Event, count, accepted_in, accepted, sent, waiting, with_event}
 use Rattle.nm_top.specs.Steps.{step_of, sends_in, sends_of}
 use Rattle.c_tree.specs.declared.thin.Statement.TheVariants.{Print, Send, Receive}
 use Rattle.nm_top.specs.Stands.{AreDistinct, WasSent, IsSound}
@@ -312,14 +311,3 @@ sends_in_at_most (s ∷ ss) (suc (suc k)) = omega (arith, sends_in_at_most ss k,
 pub no_more_sends : (ss : List Statement) (k : ℕ) → sends_of ss k ≤ k
 no_more_sends ss zero = omega arith
 no_more_sends ss (suc k) = omega (arith, sends_in_at_most ss k)
-
--- the first letter that passes, where a letter passes
-pub first_here : {X : Type 0} (t : X → Bool) (ws : List X) (i : ℕ) (d e : X) → i < length ws → t (get_or ws i e) ≡ true → filter t (drop i ws) ≡ get_or ws i d ∷ filter t (drop (suc i) ws)
-first_here t [] i d e low passes = absurd (omega arith)
-first_here t (w ∷ ws) zero d e low passes = ap (λ b. cond b (w ∷ filter t ws) (filter t ws)) passes
-first_here t (w ∷ ws) (suc i) d e low passes = first_here t ws i d e (omega arith) passes
-
-pub may_take_true : (p set : ℕ) (m : Message) → m.dest.no ≡ p → has_channel set m.chan ≡ true → may_take p set m ≡ true
-may_take_true p set m to_p named = ap (λ b. b && has_channel set m.chan) (let same = to_p in numbers m.dest.no p same) ∙ named where
-  numbers : (x y : ℕ) → x ≡ y → (x == y) ≡ true
-  numbers x y same = grind (arith, nat_tests)

@@ -1,5 +1,5 @@
 -- What a world stands for after one more turn.
-use Rattle.std.proofs.Common.{◌≡◌, ℕ, ◌+◌, ◌-◌, ◌^◌, ◌<◌, min, zero, suc, List, [], ◌∷◌, ◌++◌, length, get_or, set, take, drop, inl, inr, refl, ap, sym, ◌∙◌, subst, arith, length-append, append-nil, filter, length-set, get_or-set_same, get_or-set_other}
+use Rattle.std.proofs.Common.{◌≡◌, ℕ, ◌+◌, ◌-◌, ◌^◌, ◌<◌, ◌≤◌, min, zero, suc, List, [], ◌∷◌, ◌++◌, length, get_or, set, take, drop, inl, inr, refl, ap, sym, ◌∙◌, subst, arith, length-append, append-nil, filter, length-set, get_or-set_same, get_or-set_other}
 use Rattle.std.proofs.Common.{Bool, true, false, cond, map}
 use Rattle.std.proofs.lemmas.List.{map-append, length-map}
 use Rattle.std.proofs.Math.ListN.{get_or-map}
@@ -19,16 +19,24 @@ use Rattle.nm_top.specs.declared.step.Step.{Step}
 use Rattle.nm_top.specs.declared.step.Step.TheVariants.{Plain, Sends, Waits, Over}
 use Rattle.nm_top.specs.Runs.{Event, count, accepted, sent, waiting, with_event, turn, next, goes_on, accepts_first, may_take}
 use Rattle.nm_top.specs.Steps.{step_of, sends_of}
-use Rattle.nm_top.specs.Stands.{StandsBy, seen}
+use Rattle.nm_top.specs.declared.waiting.Waiting.{Waiting}
+use Rattle.nm_top.specs.Queues.{seen, Keeps, Leaves}
+use Rattle.nm_top.proofs.QueueLaws.{keeps_later}
+use Rattle.std.specs.List.{AllByRecursion}
+use Rattle.c_tree.specs.ThinText.{Fits}
+use Rattle.c_tree.specs.declared.thin.Statement.TheVariants.{Print, Send, Receive}
+use Rattle.nm_top.specs.Steps.{step_in}
+use Rattle.nm_top.specs.Stands.{StandsBy}
 use Rattle.nm_top.proofs.Progress.{Adds, adds, IsNext, next_is}
-use Rattle.nm_top.proofs.RunSteps.{equal_or_not, count-same, count-other, accepted-with, sent-with, new_letter, send_kind, sound_plain, sound_sends, sound_accepts, waiting_plain, waiting_sends, waiting_without, at_most, sent_at_most, accepted_at_most, sent_plain, accepted_plain, accepted_send, sent_accept, no_more_sends}
+use Rattle.nm_top.proofs.RunSteps.{equal_or_not, count-same, count-other, accepted-with, sent-with, new_letter, send_kind, sound_plain, sound_sends, sound_accepts, waiting_plain, waiting_sends, waiting_without, at_most, sent_at_most, accepted_at_most, sent_plain, accepted_plain, accepted_send, sent_accept, no_more_sends, filter-append}
 
 -- what filters, places and cuts do to letters as they are seen
 filter_seen : (t : Message → Bool) (ls : List Letter) → filter t (map seen ls) ≡ map seen (filter (λ l. t (seen l)) ls)
 filter_seen t [] = refl
 filter_seen t (l ∷ ls) =
     ap (λ (ms : List Message). cond (t (seen l)) (seen l ∷ ms) ms) (filter_seen t ls)
-    ∙ elim (t (seen l)) as (λ b. cond b (seen l ∷ map seen (filter (λ x. t (seen x)) ls)) (map seen (filter (λ x. t (seen x)) ls)) ≡ map seen (cond b (l ∷ filter (λ x. t (seen x)) ls) (filter (λ x. t (seen x)) ls))) [
+    ∙ elim (t (seen l)) as (λ b. cond b (seen l ∷ map seen (filter (λ x. t (seen x)) ls)) (map seen (filter (λ x. t (seen x)) ls)) ≡ map seen
+    (cond b (l ∷ filter (λ x. t (seen x)) ls) (filter (λ x. t (seen x)) ls))) [
       | true ↦ refl
       | false ↦ refl
     ]
@@ -108,7 +116,8 @@ stands_plain ss events p processes waits made sends accepts old new stands low f
 
 pub stands_sends : (ss : List Statement) (events : List Event) (p dest chan word : ℕ) (processes : List Process) (waits : List Letter) (made sends accepts : ℕ) (old new : Process) (letter : Letter)
     → StandsBy ss events processes waits made sends accepts → p < length processes → made < 1000000 → old ≡ get_or processes p old → step_of ss old.events ≡ Sends dest chan word
-    → new.events ≡ min (old.events + 1) (2 ^ 64 - 1) → new.sends ≡ min (old.sends + 1) (2 ^ 32 - 1) → letter ≡ record { id = record { sender = record { no = p }; number = old.sends }; dest = record { no = dest }; chan = chan; word = word }
+    → new.events ≡ min (old.events + 1) (2 ^ 64 - 1) → new.sends ≡ min (old.sends + 1) (2 ^ 32 - 1) → letter ≡
+    record { id = record { sender = record { no = p }; number = old.sends }; dest = record { no = dest }; chan = chan; word = word; posted = made }
     → StandsBy ss (turn ss events p) (set processes p new) (waits ++ letter ∷ []) (made + 1) (min (sends + 1) (2 ^ 64 - 1)) accepts
 stands_sends ss events p dest chan word processes waits made sends accepts old new letter stands low few is_old is more one_more is_letter =
     let at : old.events ≡ count events p = ap (λ (x : Process). x.events) is_old ∙ stands.counted p old low in
@@ -142,7 +151,8 @@ pub stands_waits : (ss : List Statement) (events : List Event) (p given : ℕ) (
 stands_waits ss events p given processes waits made sends accepts old stands low is_old is none =
     let at : old.events ≡ count events p = ap (λ (x : Process). x.events) is_old ∙ stands.counted p old low in
     let wants = coming ss events p (Waits given) (ap (step_of ss) (sym at) ∙ is) in
-    let idle : turn ss events p ≡ events = ap (goes_on events p) wants ∙ ap (accepts_first events p given) (ap (filter (may_take p given)) (sym stands.letters) ∙ filter_seen (may_take p given) waits ∙ ap (map seen) none) in
+    let idle : turn ss events p ≡ events = ap (goes_on events p) wants ∙ ap (accepts_first events p given)
+    (ap (filter (may_take p given)) (sym stands.letters) ∙ filter_seen (may_take p given) waits ∙ ap (map seen) none) in
     subst (λ (es : List Event). StandsBy ss es processes waits made sends accepts) (sym idle) stands
 
 pub stands_accepts : (ss : List Statement) (events : List Event) (p given i : ℕ) (processes : List Process) (waits rest : List Letter) (made sends accepts : ℕ) (old new : Process) (d : Letter)
@@ -202,4 +212,61 @@ pub block_is : (ss : List Statement) (events : List Event) (p : ℕ) (processes 
     → block p (look_before (step_of ss (get_or processes p d).events)) (get_or processes p d).events (output_after ss (get_or processes p d).events) ≡ block_of ss events p
 block_is ss events p processes waits made sends accepts d stands low =
     ap (λ k. block p (look_before (step_of ss k)) k (output_after ss k)) (stands.counted p d low)
-    ∙ ap (λ (l : Look). block p l (count events p) (output_after ss (count events p))) (sym (look_is (step_of ss (count events p)) (sends_of ss (count events p)) (next ss events p) (coming ss events p (step_of ss (count events p)) refl)))
+    ∙ ap (λ (l : Look). block p l (count events p) (output_after ss (count events p))) (sym (look_is (step_of ss (count events p)) (sends_of ss (count events p)) (next ss events p)
+    (coming ss events p (step_of ss (count events p)) refl)))
+
+-- ---- a run and its queues
+
+-- what a statement sends fits the processes
+sends_fit_in : (n : ℕ) (ss : List Statement) (k dest chan word : ℕ) → AllByRecursion (Fits n) ss → step_in ss k ≡ Sends dest chan word → (dest < n) × (chan < 32)
+sends_fit_in n [] zero dest chan word fits is = cc
+sends_fit_in n [] (suc k) dest chan word fits is = cc
+sends_fit_in n (s ∷ ss) zero dest chan word fits is = cc
+sends_fit_in n (Print text ∷ ss) (suc zero) dest chan word fits is = cc
+sends_fit_in n (Receive given ∷ ss) (suc zero) dest chan word fits is = cc
+sends_fit_in n (Send to on what ∷ ss) (suc zero) dest chan word fits is =
+    let same_dest : to ≡ dest = cc in
+    let same_chan : on ≡ chan = cc in
+    (subst (λ d. d < n) same_dest fits.0.0, subst (λ d. d < 32) same_chan fits.0.1)
+sends_fit_in n (s ∷ ss) (suc (suc k)) dest chan word fits is = sends_fit_in n ss k dest chan word fits.1 is
+
+pub sends_fit : (n : ℕ) (ss : List Statement) (k dest chan word : ℕ) → AllByRecursion (Fits n) ss → step_of ss k ≡ Sends dest chan word → (dest < n) × (chan < 32)
+sends_fit n ss zero dest chan word fits is = cc
+sends_fit n ss (suc k) dest chan word fits is = sends_fit_in n ss k dest chan word fits is
+
+-- a letter at its place among the others
+at_place : (before after : List Letter) (l d : Letter) → get_or (before ++ l ∷ after) (length before) d ≡ l
+at_place [] after l d = refl
+at_place (w ∷ ws) after l d = at_place ws after l d
+
+left_of : (before after : List Letter) (l : Letter) → take (length before) (before ++ l ∷ after) ++ drop (suc (length before)) (before ++ l ∷ after) ≡ before ++ after
+left_of [] after l = refl
+left_of (w ∷ ws) after l = ap (λ (x : List Letter). w ∷ x) (left_of ws after l)
+
+place_in : (before after : List Letter) (l : Letter) → length before < length (before ++ l ∷ after)
+place_in before after l = omega (arith, length-append before (l ∷ after))
+
+first_is : (test : Letter → Bool) (before after : List Letter) (l : Letter) → filter test before ≡ [] → test l ≡ true → filter test (before ++ l ∷ after) ≡ l ∷ filter test after
+first_is test before after l none fits =
+    filter-append test before (l ∷ after) ∙ ap (λ (x : List Letter). x ++ filter test (l ∷ after)) none ∙ ap (λ b. cond b (l ∷ filter test after) (filter test after)) fits
+
+pub stands_taken : (ss : List Statement) (events : List Event) (p given : ℕ) (processes : List Process) (waits left : List Letter) (made sends accepts : ℕ) (old new : Process) (l : Letter)
+    → StandsBy ss events processes waits made sends accepts → p < length processes → made < 1000000 → old ≡ get_or processes p old → step_of ss old.events ≡ Waits given
+    → Leaves (λ x. may_take p given (seen x)) waits l left → new.events ≡ min (old.events + 1) (2 ^ 64 - 1) → new.sends ≡ old.sends
+    → StandsBy ss (turn ss events p) (set processes p new) left (made + 1) sends (min (accepts + 1) (2 ^ 64 - 1))
+stands_taken ss events p given processes waits left made sends accepts old new l stands low few is_old is leaves more same =
+    let before = leaves.before in
+    let after = leaves.after in
+    let all = before ++ l ∷ after in
+    let test : Letter → Bool = λ x. may_take p given (seen x) in
+    let found : filter test all ≡ get_or all (length before) l ∷ filter test after =
+    first_is test before after l leaves.first leaves.fits ∙ ap (λ (x : Letter). x ∷ filter test after) (sym (at_place before after l l)) in
+    subst (λ (ws : List Letter). StandsBy ss (turn ss events p) (set processes p new) ws (made + 1) sends (min (accepts + 1) (2 ^ 64 - 1))) (left_of before after l ∙ sym leaves.is)
+    (stands_accepts ss events p given (length before) processes all (filter test after) made sends accepts old new l
+    (subst (λ (ws : List Letter). StandsBy ss events processes ws made sends accepts) leaves.was stands) low few is_old is (place_in before after l) found more same)
+
+-- the queues after one more event of a process
+pub kept_set : (processes : List Process) (p : ℕ) (new : Process) (waiting : Waiting) (a b : ℕ) (ws : List Letter) → a ≤ b → Keeps (length processes) waiting a ws
+    → Keeps (length (set processes p new)) waiting b ws
+kept_set processes p new waiting a b ws more keeps =
+    subst (λ n. Keeps n waiting b ws) (sym (length-set processes p new)) (keeps_later (length processes) a b waiting ws more keeps)

@@ -6,13 +6,10 @@ use Rattle.c_tree.specs.declared.thin.Statement.{Statement}
 use Rattle.nm_top.specs.declared.letter.Letter.{Letter}
 use Rattle.nm_top.specs.declared.process.Process.{Process}
 use Rattle.nm_top.specs.declared.process.World.{World}
+use Rattle.nm_top.specs.Queues.{seen, Keeps}
 use Rattle.nm_top.specs.Runs.{Event, count, accepted, sent, waiting}
 use Rattle.nm_base.specs.Message.{Message, same_name}
 use Rattle.nm_top.specs.Steps.{sends_of}
-
--- a waiting letter as the definition of runs sees it
-abbrev pub seen : Letter → Message
-seen l = record { id = l.id; dest = l.dest; chan = l.chan; words = l.word ∷ [] }
 
 -- no two letters have one name
 abbrev pub AreDistinct : List Message → Type 0
@@ -39,6 +36,8 @@ pub record StandsBy (statements : List Statement) (events : List Event) (process
   pub sends : letters_sent ≡ length (sent events)
   pub accepts : letters_accepted ≡ length (accepted events)
 
-abbrev pub Stands : List Statement → List Event → World → Type 0
-Stands statements events world =
-    StandsBy statements events world.processes.items world.waiting.items world.events world.sent world.accepted
+-- A world stands for a run: its queues hold the letters that wait there.
+pub record Stands (statements : List Statement) (events : List Event) (world : World) : Type 0 where
+  pub waits : List Letter
+  pub parts : StandsBy statements events world.processes.items waits world.events world.sent world.accepted
+  pub kept : Keeps (length world.processes.items) world.waiting world.events waits

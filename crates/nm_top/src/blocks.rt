@@ -7,7 +7,9 @@ ghost use Rattle.nm_top.specs.Texts.{blocks, block, line_end};
 ghost use Rattle.nm_top.specs.Looks.{seen_look, look_before};
 ghost use Rattle.nm_top.specs.Steps.{step_of};
 ghost use Rattle.nm_top.specs.Turns.{AreTurns};
+ghost use Rattle.std.specs.List.{AllByRecursion};
 ghost use Rattle.c_tree.specs.ThinMeaning.{output_after};
+ghost use Rattle.c_tree.specs.ThinText.{Fits};
 
 use crate::look::Look;
 use crate::step::Step;
@@ -111,7 +113,8 @@ pub fn blocks_of(
     statements: &[Statement],
     turns: &[u8],
 ) -> Result<Vec<u8>, AllocError>
-    requires { AreTurns processes turns.now }
+    requires turns { AreTurns processes turns.now }
+    requires fits { AllByRecursion (Fits processes) statements.now }
     ensures { IfOk result (λ text. text.items ≡ blocks processes statements.now (run_of statements.now turns.now)) }
 {
     let world = world_after(alloc, processes, statements, turns)?;
@@ -121,8 +124,13 @@ pub fn blocks_of(
         let block = block_after(alloc, statements, process, events)?;
         text.extend_from_slice(&block)?;
     }
-    let waiting = world.waiting.len();
-    let summary = summary_text(alloc, world.events, world.sent, world.accepted, waiting)?;
+    let summary = summary_text(
+        alloc,
+        world.events,
+        world.sent,
+        world.accepted,
+        world.waiting.len,
+    )?;
     text.extend_from_slice(summary.as_bytes())?;
     Ok(text)
 }

@@ -9,4 +9,6 @@ pub struct Letter {
     pub dest: ProcNo,
     pub chan: u8,
     pub word: u32,
+    /// How many events came before its send.
+    pub posted: usize,
 }

@@ -2,6 +2,8 @@
 
 ghost use Rattle.std.specs.Prelude.{◌≡◌, ◌⊎◌, IfSome, IfOk, IsErrOf};
 ghost use Rattle.std.specs.FinMap.{get};
+ghost use Rattle.std.specs.List.{AllByRecursion};
+ghost use Rattle.c_tree.specs.ThinText.{Fits};
 ghost use Rattle.nm_outside.specs.Causes.{BelongsTo};
 ghost use Rattle.nm_top.specs.Answers.{RunAnswer, IsProgram, IsSchedule};
 ghost use Rattle.nm_top.specs.Turns.{AreTurns};
@@ -29,6 +31,7 @@ fn program_in<'a, C: Cabinet>(
 ) -> Result<Vec<Statement>, Stop<'a>>
     ensures usage { IsErrOf result Stop.Usage → ⊥ }
     ensures statements { IfSome (C.files files.old) (λ held. Needed (get held name.now) (IsProgram processes) name.now result) }
+    ensures fits { IfOk result (λ v. AllByRecursion (Fits processes) v.items) }
     ensures absent { BelongsTo (is_absent_work result) (C.absents files.old) (C.absents files.new) }
     ensures blames { Blames (λ n. n ≡ name.now) result }
     ensures failed { BelongsTo (is_failed_work result) (C.read_faults files.old) (C.read_faults files.new) }

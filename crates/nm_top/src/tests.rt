@@ -3,6 +3,7 @@
 use crate::{Status, racetrace};
 use nm_outside::{CabinetCall, CabinetFail, ListSink, MemCabinet, SinkFail};
 use std::alloc::Global;
+use std::process::Abort;
 use std::test::Fail;
 
 const EMPTY_PROGRAM: &str = "int main(void)\n{\n}\n";
@@ -11,6 +12,10 @@ const PRINTS: &str = "int main(void)\n{\n    printf(\"a\\n\");\n    printf(\"hi\
 
 const TALKS: &str =
     "int main(void)\n{\n    send(0, 0, 7);\n    receive(1u);\n    printf(\"a\\n\");\n}\n";
+
+// It sends on two channels, and accepts first what was sent first.
+const CHOOSES: &str =
+    "int main(void)\n{\n    send(0, 3, 7);\n    send(0, 1, 8);\n    receive(10u);\n    receive(2u);\n    receive(1u);\n}\n";
 
 const NO_PROGRAM: &str = "int main(void)\n{\n    return 0;\n}\n";
 
@@ -41,30 +46,81 @@ fn answer(
     Ok((status, String::from_utf8_lossy(alloc, out.bytes())?))
 }
 
+// What is called, with which program P and schedule S, and what it answers and prints.
+type Row = (
+    &'static str,
+    &'static str,
+    &'static str,
+    Status,
+    &'static str,
+);
+
+fn holds(rt: &impl Abort, alloc: Global, row: Row) -> Result<(), Fail> {
+    let (line, program, schedule, status, printed) = row;
+    let told = answer(
+        alloc,
+        line,
+        program,
+        schedule,
+        Vec::new(alloc),
+        Vec::new(alloc),
+    )?;
+    assert_eq!(rt; told.0, status, "{line}");
+    assert_eq!(rt; told.1.as_str(), printed, "{line}");
+    Ok(())
+}
+
+const NONE: &str =
+    "== process 0 ended 0, 2 events, 0 bytes\n== events 2, sent 0, accepted 0, waiting 0\n";
+
+const BEGUN: &str =
+    "== process 0 able, 4 events, 2 bytes\na\n== events 4, sent 0, accepted 0, waiting 0\n";
+
+const ENDED: &str =
+    "== process 0 ended 0, 6 events, 4 bytes\na\nhi\n== events 6, sent 0, accepted 0, waiting 0\n";
+
+const TALKED: &str =
+    "== process 0 ended 0, 8 events, 2 bytes\na\n== process 1 waiting 0x00000001, 4 events, 0 bytes\n== events 12, sent 2, accepted 1, waiting 1\n";
+
+const CHOSEN: &str =
+    "== process 0 waiting 0x00000001, 10 events, 0 bytes\n== events 10, sent 2, accepted 2, waiting 0\n";
+
 #[test]
-fn rows(rt: HostRuntime) -> Result<(), Fail> {
-    let alloc = rt.alloc();
-    let none =
-        "== process 0 ended 0, 2 events, 0 bytes\n== events 2, sent 0, accepted 0, waiting 0\n";
-    let begun =
-        "== process 0 able, 4 events, 2 bytes\na\n== events 4, sent 0, accepted 0, waiting 0\n";
-    let ended =
-        "== process 0 ended 0, 6 events, 4 bytes\na\nhi\n== events 6, sent 0, accepted 0, waiting 0\n";
-    let talked =
-        "== process 0 ended 0, 8 events, 2 bytes\na\n== process 1 waiting 0x00000001, 4 events, 0 bytes\n== events 12, sent 2, accepted 1, waiting 1\n";
+fn runs(rt: HostRuntime) -> Result<(), Fail> {
     let table = [
         (
             "run P 2 S",
             TALKS,
             "0 0 0 0 0 0 0 0 1 1 1 1 1",
             Status::Done,
-            talked,
+            TALKED,
         ),
-        ("run P 1 S", EMPTY_PROGRAM, "0 0 0", Status::Done, none),
+        ("run P 1 S", EMPTY_PROGRAM, "0 0 0", Status::Done, NONE),
+        ("run P 01 S", PRINTS, "0 0\n0 00", Status::Done, BEGUN),
+        ("run P 1 S", PRINTS, "0 0 0 0 0 0 0 0", Status::Done, ENDED),
+        (
+            "run P 1 S",
+            CHOOSES,
+            "0 0 0 0 0 0 0 0 0 0 0",
+            Status::Done,
+            CHOSEN,
+        ),
+    ];
+    for row in table {
+        holds(&rt, rt.alloc(), row)?;
+    }
+    Ok(())
+}
+
+#[test]
+fn refusals(rt: HostRuntime) -> Result<(), Fail> {
+    let table = [
+        ("", EMPTY_PROGRAM, "0", Status::Usage, "usage\n"),
         ("run G none S", EMPTY_PROGRAM, "0", Status::Usage, "usage\n"),
         ("run P 1", EMPTY_PROGRAM, "0", Status::Usage, "usage\n"),
-        ("run P 01 S", PRINTS, "0 0\n0 00", Status::Done, begun),
-        ("run P 1 S", PRINTS, "0 0 0 0 0 0 0 0", Status::Done, ended),
+        ("run P 0 S", EMPTY_PROGRAM, "0", Status::Usage, "usage\n"),
+        ("run P 33 S", EMPTY_PROGRAM, "0", Status::Usage, "usage\n"),
+        ("walk P 1 S", EMPTY_PROGRAM, "0", Status::Usage, "usage\n"),
         ("run P 1 S", NO_PROGRAM, "0", Status::NotYet, "not yet\n"),
         (
             "run P 1 S",
@@ -80,6 +136,7 @@ fn rows(rt: HostRuntime) -> Result<(), Fail> {
             Status::NotYet,
             "not yet\n",
         ),
+        ("run P 1 T", NO_PROGRAM, "0", Status::NotYet, "not yet\n"),
         (
             "run Q 1 S",
             EMPTY_PROGRAM,
@@ -94,23 +151,9 @@ fn rows(rt: HostRuntime) -> Result<(), Fail> {
             Status::Absent,
             "absent: T\n",
         ),
-        ("run P 1 T", NO_PROGRAM, "0", Status::NotYet, "not yet\n"),
-        ("", EMPTY_PROGRAM, "0", Status::Usage, "usage\n"),
-        ("run P 0 S", EMPTY_PROGRAM, "0", Status::Usage, "usage\n"),
-        ("run P 33 S", EMPTY_PROGRAM, "0", Status::Usage, "usage\n"),
-        ("walk P 1 S", EMPTY_PROGRAM, "0", Status::Usage, "usage\n"),
     ];
-    for (line, program, schedule, status, printed) in table {
-        let told = answer(
-            alloc,
-            line,
-            program,
-            schedule,
-            Vec::new(alloc),
-            Vec::new(alloc),
-        )?;
-        assert_eq!(rt; told.0, status, "{line}");
-        assert_eq!(rt; told.1.as_str(), printed, "{line}");
+    for row in table {
+        holds(&rt, rt.alloc(), row)?;
     }
     Ok(())
 }

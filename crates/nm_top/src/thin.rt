@@ -1,7 +1,9 @@
 //! Reading a thin program.
 
 ghost use Rattle.std.specs.Prelude.{◌≡◌, codes, IfOk, IsErrOf, IsTrue, Some, ◌↔◌};
+ghost use Rattle.std.specs.List.{AllByRecursion};
 ghost use Rattle.std.specs.Option.{option_map, option_copied};
+ghost use Rattle.c_tree.specs.ThinText.{Fits};
 ghost use Rattle.nm_top.specs.Answers.{IsProgram};
 ghost use Rattle.nm_top.specs.Stops.{ReadsItems};
 ghost use Rattle.nm_top.specs.ThinReading as reading;
@@ -222,6 +224,7 @@ pub fn statements_of<'a>(
     text: &[u8],
 ) -> Result<Vec<Statement>, Stop<'a>>
     ensures read { ReadsItems (IsProgram processes text.now) result }
+    ensures fits { IfOk result (λ v. AllByRecursion (Fits processes) v.items) }
     ensures usage { IsErrOf result Stop.Usage → ⊥ }
 {
     if text.len() > LIMIT {

@@ -5,6 +5,7 @@ use Rattle.stack_code.specs.Blocks.{view_of}
 use Rattle.stack_code.specs.View.{code_of}
 use Rattle.c_compile.proofs.ProgramStacks.{sound_by, within_by}
 use Rattle.c_compile.proofs.Compiled.{view_is, stands_by}
+use Rattle.c_compile.proofs.Names.{tells_names}
 use Rattle.c_compile.proofs.program.compile.Goals as goal
 
 pub new-code-requires-clause-sound : goal.new-code-requires-clause-sound
@@ -35,4 +36,5 @@ returns c =
     record {
       code = same;
       stands = stands_by p.globals p.functions p.texts p.main (code_of c.new-code.result) p.checked same;
+      names = tells_names p (code_of c.new-code.result) same;
     }

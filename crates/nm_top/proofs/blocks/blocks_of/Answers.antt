@@ -18,6 +18,6 @@ loop-process-preserved c =
     ∙ ap (λ (b : List ℕ). c.loop-process.text.items ++ b)
     (c.deref.ensures.value ∙ c.in_ok-block.ensures
     ∙ ap (λ (x : Process). block p (look_before (step_of ss x.events)) x.events (output_after ss x.events)) c.index.ensures
-    ∙ block_is ss run p _ _ _ _ _ c.index.result.now c.in_ok-world.ensures.run low)
+    ∙ block_is ss run p _ _ _ _ _ c.index.result.now c.in_ok-world.ensures.run.parts low)
     ∙ ap (λ (t : List ℕ). t ++ block_of ss run p) c.loop-process.invariant
     ∙ sym (blocks_more (block_of ss run) p)

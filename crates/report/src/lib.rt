@@ -1,0 +1,16 @@
+//! The printed texts: the block of a process, the summary of a run and the lines of refusals. Each
+//! call writes its text to a sink piece by piece and takes no memory.
+#![tactic(auto)]
+
+mod blocks;
+mod cause;
+mod put;
+mod refusals;
+mod summaries;
+#[cfg(test)]
+mod tests;
+
+pub use blocks::block;
+pub use cause::Refusal;
+pub use refusals::refusal;
+pub use summaries::summary;
