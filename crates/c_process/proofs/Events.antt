@@ -13,9 +13,8 @@ use Rattle.stack_code.specs.Law.{more}
 use Rattle.stack_code.specs.Machine.{Control, open_frame, filled, blocks_of, act_if_any, shown, step, exec, started_by, run_code}
 use Rattle.stack_code.proofs.Law.{act_grows}
 use Rattle.c_compile.specs.Correct.{StandsFor}
-use Rattle.c_process.specs.Runs.{run_from, shown_at, Reaches, StopsAt, Waits}
-use Rattle.c_process.proofs.Runs.{open_frame_follows, reaches_more, goes_on}
-use Rattle.c_process.specs.Laws.{run_on}
+use Rattle.c_process.proofs.Runs.{comes_more, goes_on}
+use Rattle.c_process.specs.Laws.{run_on, StopsAt}
 use Rattle.c_process.proofs.Scripts.{next_goes}
 
 -- an outcome has made one event after these
@@ -91,16 +90,16 @@ module _ (code : Code) (count me : ℕ) where
 
   -- ---- the event after a stop
 
-  step_first : (x : Option Placed) (c : Control) (t s : State) → t.left ≡ 0 → then_on (shown code count me c (act_if_any code count me x c t)) (exec code count me 0) ≡ Stopped Able s → (first : Kind) × OneMore t.events first (state_of (then_on (shown code count me c (act_if_any code count me x c (more 1 [] t))) (exec code count me 0)))
+  step_first : (x : Option Placed) (c : Control) (t s : State) → t.left ≡ 0 → shown code count me c (act_if_any code count me x c t) ≡ Stopped Able s → (first : Kind) × OneMore t.events first (state_of (shown code count me c (act_if_any code count me x c (more 1 [] t))))
   step_first None c t s z e = cc
   step_first (Some x) c t s z e =
       let grows = act_grows code count me 1 [] (suc t.left) (suc (t.left + 1)) x.instr c in
       by (act_if_any code count me (Some x) c t) (act_if_any code count me (Some x) c (more 1 [] t)) (grows.follows t (omega arith) (omega arith)) (grows.steady.leads t) (grows.steady.leads (more 1 [] t)) e
     where
-      seen : (o : Outcome Control) (first : Kind) → OneMore t.events first (state_of o) → OneMore t.events first (state_of (then_on (shown code count me c o) (exec code count me 0)))
+      seen : (o : Outcome Control) (first : Kind) → OneMore t.events first (state_of o) → OneMore t.events first (state_of (shown code count me c o))
       seen (Done d u) first m = m
       seen (Stopped status u) first m = record { events = m.events; left = m.left }
-      by : (o o' : Outcome Control) → Extends 1 [] o o' → Leads t (state_of o) → Leads (more 1 [] t) (state_of o') → then_on (shown code count me c o) (exec code count me 0) ≡ Stopped Able s → (first : Kind) × OneMore t.events first (state_of (then_on (shown code count me c o') (exec code count me 0)))
+      by : (o o' : Outcome Control) → Extends 1 [] o o' → Leads t (state_of o) → Leads (more 1 [] t) (state_of o') → shown code count me c o ≡ Stopped Able s → (first : Kind) × OneMore t.events first (state_of (shown code count me c o'))
       by (Done d u) o' x l m e = cc
       by (Stopped Over u) o' x l m e = cc
       by (Stopped (Wants set) u) o' x l m e = cc
@@ -108,50 +107,20 @@ module _ (code : Code) (count me : ℕ) where
           let r = first_made t (Stopped Able u) o' u z l m x refl in
           (r.0, seen o' r.0 r.1)
 
-  abbrev begin : Control
-  begin = record { function = code.main; pc = 0; stack = []; callers = [] }
-
-  control_first : (c : Control) (t s : State) → t.left ≡ 0 → exec code count me 1 c t ≡ Stopped Able s → (first : Kind) × OneMore t.events first (state_of (exec code count me 1 c (more 1 [] t)))
-  control_first c t s z e = step_first (slice_get (steps_of code c.function) c.pc) c t s z e
-
-  started_first : (f : Option FunctionCode) (t s : State) → t.left ≡ 0 → then_on (started_by code count me f t) (exec code count me 1) ≡ Stopped Able s → (first : Kind) × OneMore t.events first (state_of (then_on (started_by code count me f (more 1 [] t)) (exec code count me 1)))
-  started_first None t s z e = control_first begin t s z e
-  started_first (Some f) t s z e =
-      let opens = open_frame code.main f.line f.frame_words [] in
-      let grows = open_frame_follows code count me 1 [] (suc t.left) (suc (t.left + 1)) code.main f.line f.frame_words [] in
-      by (opens t) (opens (more 1 [] t)) (grows.follows t (omega arith) (omega arith)) (grows.steady.leads t) (grows.steady.leads (more 1 [] t)) e
-    where
-      go : Outcome (Unit {0}) → Outcome Control
-      go o = then_on (then_on o (λ _ t. Done begin t)) (exec code count me 1)
-      on : (o : Outcome (Unit {0})) → Leads (state_of o) (state_of (go o))
-      on (Done a u) = exec_leads 1 begin u
-      on (Stopped status u) = leads_refl u
-      by : (o o' : Outcome (Unit {0})) → Extends 1 [] o o' → Leads t (state_of o) → Leads (more 1 [] t) (state_of o') → go o ≡ Stopped Able s → (first : Kind) × OneMore t.events first (state_of (go o'))
-      by (Done a u) o' x l m e =
-          let z' : u.left ≡ 0 = omega (arith, z, l.left) in
-          let same : u.events ≡ t.events = no_events l.made t.events u l.events (omega (arith, z, l.left)) in
-          let r = control_first begin u s z' e in
-          let r' = subst (λ o. OneMore u.events r.0 (state_of (go o))) (sym x) r.1 in
-          (r.0, subst (λ es. OneMore es r.0 (state_of (go o'))) same r')
-      by (Stopped Over u) o' x l m e = cc
-      by (Stopped (Wants set) u) o' x l m e = cc
-      by (Stopped Able u) o' x l m e =
-          let r = first_made t (Stopped Able u) o' u z l m x refl in
-          (r.0, still t.events r.0 (state_of o') (state_of (go o')) r.1 (on o'))
-
-  pub first_event : (place : Option Control) (t s : State) → t.left ≡ 0 → run_from code count me place 1 t ≡ Stopped Able s → (first : Kind) × OneMore t.events first (state_of (run_from code count me place 1 (more 1 [] t)))
-  first_event None t s z e = started_first (slice_get code.functions code.main) t s z e
-  first_event (Some c) t s z e = control_first c t s z e
+  -- where a step stops for want of an event, it makes one event where it may
+  pub first_event : (c : Control) (t s : State) → t.left ≡ 0 → step code count me c t ≡ Stopped Able s → (first : Kind) × OneMore t.events first (state_of (step code count me c (more 1 [] t)))
+  first_event c t s z e = step_first (slice_get (steps_of code c.function) c.pc) c t s z e
 
 -- the script's next is the event that the machine makes where it may make one
 module _ (set : Setting) (code : Code) (stands : StandsFor set code) where
-  pub event_next : (inputs : List Message) (k : ℕ) (place : Option Control) (t s : State) (first : Kind) → Reaches code set.count set.me inputs k place t → run_of set inputs k ≡ Stopped Able s → OneMore t.events first (state_of (run_from code set.count set.me place 1 (more 1 [] t))) → next set inputs k ≡ Goes first
-  event_next inputs k place t s first r e m =
-      let longer0 = reaches_more code set.count set.me 1 [] inputs k place t r in
-      let longer1 = subst (λ ls. Reaches code set.count set.me ls (k + 1) place (more 1 [] t)) (append-nil inputs) longer0 in
-      let longer = subst (λ n. Reaches code set.count set.me inputs n place (more 1 [] t)) (add-one k) longer1 in
-      let o = run_from code set.count set.me place 1 (more 1 [] t) in
-      let run = goes_on code set.count set.me inputs (suc k) place (more 1 [] t) 1 o longer refl in
+  pub event_next : (inputs : List Message) (k n : ℕ) (c : Control) (t s : State) (first : Kind) → run_code code set.count set.me inputs k n ≡ Done c t → run_of set inputs k ≡ Stopped Able s → OneMore t.events first (state_of (step code set.count set.me c (more 1 [] t))) → next set inputs k ≡ Goes first
+  event_next inputs k n c t s first r e m =
+      let longer : run_code code set.count set.me (inputs ++ []) (k + 1) n ≡ Done c (more 1 [] t) = comes_more code set.count set.me 1 [] inputs k n c t r in
+      let longer' : run_code code set.count set.me inputs (suc k) n ≡ Done c (more 1 [] t) =
+          ap (λ j. run_code code set.count set.me inputs j n) (sym (add-one k)) ∙ ap (λ ls. run_code code set.count set.me ls (k + 1) n) (sym (append-nil inputs)) ∙ longer in
+      let o = step code set.count set.me c (more 1 [] t) in
+      let run = goes_on code set.count set.me inputs (suc k) n c (more 1 [] t) longer' in
       let a = stands inputs (suc k) in
-      let events = stops_with code set.count set.me inputs (suc k) run.0 a.status a.state o run.1 m.left (a.steps, a.machine) ∙ m.events in
+      let m' = still t.events first (state_of o) (state_of (then_on o (exec code set.count set.me 0))) m (then_leads code set.count set.me 0 o) in
+      let events = stops_with code set.count set.me inputs (suc k) (n + 1) a.status a.state (then_on o (exec code set.count set.me 0)) run m'.left (a.steps, a.machine) ∙ m'.events in
       next_goes set code stands inputs k s a.state a.status first t.events e a.process events

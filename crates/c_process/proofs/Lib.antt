@@ -3,5 +3,4 @@ pub mod Scripts
 pub mod Events
 pub mod Looks
 pub mod Standing
-pub mod Lines
 pub mod Compiled

@@ -15,26 +15,27 @@ use Rattle.processes.specs.Standing as processes
 use Rattle.proc_machine.specs.declared.pause.Pause.{Pause}
 use Rattle.proc_machine.specs.declared.pause.Pause.TheVariants as pause
 use Rattle.proc_machine.specs.Pauses.{status_of}
-use Rattle.proc_machine.specs.State.{CanAdvance, CanAccept, accepting, EndsWith, letter_of_event}
+use Rattle.proc_machine.specs.Standing.{goes_by_itself}
+use Rattle.proc_machine.specs.Ahead.{CanAccept, accepting, letter_of_event}
 use Rattle.c_process.specs.Looks.{end_of, look_of, looks_at}
 
-pub able_advances : (l : Look) (p : Pause) → looks_at l p ≡ true → l ≡ look.Able → CanAdvance p
-able_advances l (pause.Line line) e a = tt
-able_advances l pause.Send e a = tt
-able_advances l pause.Print e a = tt
-able_advances l (pause.End value) e a = tt
-able_advances l (pause.Fault cause) e a = tt
+pub able_advances : (l : Look) (p : Pause) → looks_at l p ≡ true → l ≡ look.Able → goes_by_itself p ≡ true
+able_advances l (pause.Line line) e a = refl
+able_advances l pause.Send e a = refl
+able_advances l pause.Print e a = refl
+able_advances l (pause.End value) e a = refl
+able_advances l (pause.Fault cause) e a = refl
 able_advances l (pause.Receive set) e a = absurd (false≢true (sym (ap (λ l. looks_at l (pause.Receive set)) a) ∙ e))
 able_advances l pause.Done e a = absurd (false≢true (sym (ap (λ l. looks_at l pause.Done) a) ∙ e))
 
-pub advance_able : (p : Pause) → CanAdvance p → status_of p ≡ Able
+pub advance_able : (p : Pause) → goes_by_itself p ≡ true → status_of p ≡ Able
 advance_able (pause.Line line) a = refl
 advance_able pause.Send a = refl
 advance_able pause.Print a = refl
 advance_able (pause.End value) a = refl
 advance_able (pause.Fault cause) a = refl
-advance_able (pause.Receive set) a = absurd a
-advance_able pause.Done a = absurd a
+advance_able (pause.Receive set) a = absurd (false≢true a)
+advance_able pause.Done a = absurd (false≢true a)
 
 -- the set that both name
 waiting_same : (set : ℕ) (p : Pause) → looks_at (look.Waiting set) p ≡ true → p ≡ pause.Receive set

@@ -16,7 +16,6 @@ use Rattle.stack_code.specs.Machine.{Control, open_frame, new_frame, filled, blo
 use Rattle.stack_code.proofs.Law.{stopped_stays, step_more}
 use Rattle.c_compile.specs.Correct.{StopsAlike, StandsFor}
 use Rattle.c_process.specs.Laws.{run_on}
-use Rattle.c_process.specs.Runs.{run_from, shown_at, Reaches, StopsAt, StandsAt, Waits}
 
 -- ---- steps
 
@@ -66,17 +65,14 @@ module _ (code : Code) (count me : ℕ) where
         by k (Stopped status s) f e = cc
 
     -- a longer run comes to the same place
-    pub reaches_more : (inputs : List Message) (k : ℕ) (place : Option Control) (t : State) → Reaches code count me inputs k place t → Reaches code count me (inputs ++ letters) (k + extra) place (more extra letters t)
-    reaches_more inputs k None t e = ap (more extra letters) e
-    reaches_more inputs k (Some c) t r =
-        (r.0, by (started_by code count me (slice_get code.functions code.main) (first_data code count me inputs k)) refl r.1)
+    pub comes_more : (inputs : List Message) (k n : ℕ) (c : Control) (t : State) → run_code code count me inputs k n ≡ Done c t → run_code code count me (inputs ++ letters) (k + extra) n ≡ Done c (more extra letters t)
+    comes_more inputs k n c t e = by (started_by code count me (slice_get code.functions code.main) (first_data code count me inputs k)) refl e
       where
-        by : (o : Outcome Control) → started_by code count me (slice_get code.functions code.main) (first_data code count me inputs k) ≡ o → then_on o (exec' r.0) ≡ Done c t → run_code code count me (inputs ++ letters) (k + extra) r.0 ≡ Done c (more extra letters t)
+        by : (o : Outcome Control) → started_by code count me (slice_get code.functions code.main) (first_data code count me inputs k) ≡ o → then_on o (exec' n) ≡ Done c t → run_code code count me (inputs ++ letters) (k + extra) n ≡ Done c (more extra letters t)
         by (Done d u) f e =
-            ap (λ o. then_on o (exec' r.0)) (started_more (slice_get code.functions code.main) (first_data code count me inputs k) d u f) ∙ exec_more r.0 d u c t e
+            ap (λ o. then_on o (exec' n)) (started_more (slice_get code.functions code.main) (first_data code count me inputs k) d u f) ∙ exec_more n d u c t e
         by (Stopped status s) f e = cc
 
-  -- what comes of running on from there comes of the run
-  pub goes_on : (inputs : List Message) (k : ℕ) (place : Option Control) (t : State) (j : ℕ) (o : Outcome Control) → Reaches code count me inputs k place t → run_from code count me place j t ≡ o → (steps : ℕ) × (run_code code count me inputs k steps ≡ o)
-  goes_on inputs k None t j o r e = (j, sym (ap (run_from code count me None j) r) ∙ e)
-  goes_on inputs k (Some c) t j o r e = (r.0 + j, run_on code count me inputs k r.0 j ∙ ap (λ o. then_on o (exec' j)) r.1 ∙ e)
+  -- what comes of the step from there comes of the run
+  pub goes_on : (inputs : List Message) (k n : ℕ) (c : Control) (t : State) → run_code code count me inputs k n ≡ Done c t → run_code code count me inputs k (n + 1) ≡ then_on (step code count me c t) (exec' 0)
+  goes_on inputs k n c t e = run_on code count me inputs k n 1 ∙ ap (λ o. then_on o (exec' 1)) e

@@ -1,5 +1,5 @@
 -- A process that stands for a script shows what the script does next, and the script keeps the laws of scripts.
-use Rattle.std.proofs.Common.{◌≡◌, ℕ, zero, suc, ◌+◌, List, [], ◌∷◌, refl, sym, ap, ◌∙◌, subst, arith}
+use Rattle.std.proofs.Common.{◌≡◌, ℕ, zero, suc, ◌+◌, List, [], ◌∷◌, length, refl, sym, ap, ◌∙◌, subst, arith}
 use Rattle.std.specs.Prelude.{slice_get}
 use Rattle.nm_base.specs.declared.kind.Kind.{Kind}
 use Rattle.nm_base.specs.declared.kind.Kind.TheVariants.{Line, Sent, Accepted, Printed, Ended, Faulted}
@@ -7,6 +7,7 @@ use Rattle.nm_base.specs.Message.{Message}
 use Rattle.nm_base.specs.Scripts.{Script, IsLawful}
 use Rattle.nm_base.specs.Scripts as scripts
 use Rattle.c_tree.specs.State.{State, Status, Able, Wants, Over, Outcome, Done, Stopped, Run, then_on}
+use Rattle.c_tree.specs.declared.program.Program.{Program}
 use Rattle.c_tree.specs.Play.{Setting, Played, played_of, setting_of, next_by, next, run_of, play}
 use Rattle.c_tree.proofs.Histories.{able_goes_on, scripts_are_lawful}
 use Rattle.stack_code.specs.Code.{Code}
@@ -15,10 +16,10 @@ use Rattle.c_compile.specs.Correct.{StandsFor}
 use Rattle.processes.specs.declared.proc.Look.{Look}
 use Rattle.processes.specs.Standing.{Shows}
 use Rattle.proc_machine.specs.Pauses.{status_of}
-use Rattle.proc_machine.specs.State.{MachineState}
-use Rattle.c_process.specs.Runs.{StopsAt}
+use Rattle.proc_machine.specs.declared.machine.Machine.{Machine}
+use Rattle.proc_machine.specs.Machines.{setting_of, next_of, state_of}
 use Rattle.c_process.specs.Looks.{end_of, look_of}
-use Rattle.c_process.specs.Standing.{Follows}
+use Rattle.c_process.specs.Standing.{IsCodeOf, IsAfter, Follows, process_of}
 
 -- ---- steps
 
@@ -49,8 +50,12 @@ module _ (code : Code) (count me : ℕ) where
   abbrev pub stopped : Status → State → Outcome Control
   stopped status s = Stopped status s
 
+  -- with these letters and so many events it stops in this state
+  abbrev pub StopsAt : List Message → ℕ → Status → State → Type 0
+  StopsAt inputs k status s = (steps : ℕ) × (run_code code count me inputs k steps ≡ Stopped status s)
+
   -- a run stops in one state
-  pub stops_once : (inputs : List Message) (k : ℕ) (status status' : Status) (s s' : State) → StopsAt code count me inputs k status s → StopsAt code count me inputs k status' s' → stopped status s ≡ stopped status' s'
+  pub stops_once : (inputs : List Message) (k : ℕ) (status status' : Status) (s s' : State) → StopsAt inputs k status s → StopsAt inputs k status' s' → stopped status s ≡ stopped status' s'
   stops_once inputs k status status' s s' a b =
       let e : a.0 + b.0 ≡ b.0 + a.0 = omega arith in
       let left : run_code code count me inputs k (a.0 + b.0) ≡ Stopped status s = run_on inputs k a.0 b.0 ∙ ap (λ o. then_on o (exec' b.0)) a.1 in
@@ -99,11 +104,21 @@ module _ (set : Setting) (code : Code) (stands : StandsFor set code) where
 
 -- ---- the laws of processes
 
-pub follows_lawful : (m : MachineState) (look : Look) (s : Script) (letters : List Message) (k : ℕ) → Follows m look s letters k → IsLawful s
-follows_lawful m look s letters k f = subst IsLawful (sym f.script) (scripts_are_lawful f.program m.count m.me)
+-- the process is in the machine's state
+pub plays_after : (p : Program) (m : Machine) (look : Look) (letters : List Message) (k : ℕ) (is : IsCodeOf p (setting_of m).code) (a : IsAfter m look letters k) → run_of (process_of p (setting_of m)) letters k ≡ Stopped (status_of (next_of m)) (state_of m a.events)
+plays_after p m look letters k is a =
+    let set = setting_of m in
+    ap (run_of (process_of p set) letters) (sym a.count)
+    ∙ plays (process_of p set) set.code (is.stands set.count set.me.no) letters (length a.events) (status_of (next_of m)) (state_of m a.events) (a.stops.steps, a.stops.stops)
 
-pub follows_shows : (m : MachineState) (look : Look) (s : Script) (letters : List Message) (k : ℕ) → Follows m look s letters k → Shows look (s.next letters k)
+pub follows_lawful : (m : Machine) (look : Look) (s : Script) (letters : List Message) (k : ℕ) → Follows m look s letters k → IsLawful s
+follows_lawful m look s letters k f =
+    subst IsLawful (sym f.script) (scripts_are_lawful f.program (setting_of m).count (setting_of m).me.no)
+
+pub follows_shows : (m : Machine) (look : Look) (s : Script) (letters : List Message) (k : ℕ) → Follows m look s letters k → Shows look (s.next letters k)
 follows_shows m look s letters k f =
-    let set = setting_of f.program m.count m.me in
-    let run = plays set m.code (f.code.stands m.count m.me) letters k (status_of m.pause) _ f.after.stops in
-    subst (λ n. Shows look n) (sym (ap (λ s. s.next letters k) f.script)) (script_shown set m.code (f.code.stands m.count m.me) letters k (status_of m.pause) _ look f.after.events run f.after.looks)
+    let set = process_of f.program (setting_of m) in
+    let stands = f.code.stands (setting_of m).count (setting_of m).me.no in
+    let run = plays_after f.program m look letters k f.code f.after in
+    subst (λ n. Shows look n) (sym (ap (λ s. s.next letters k) f.script))
+    (script_shown set (setting_of m).code stands letters k (status_of (next_of m)) (state_of m f.after.events) look f.after.events run f.after.looks)

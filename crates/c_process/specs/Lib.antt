@@ -1,4 +1,3 @@
-pub mod Runs
 pub mod Looks
 pub mod Standing
 pub mod Laws

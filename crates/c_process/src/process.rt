@@ -7,6 +7,7 @@ ghost use Rattle.nm_base.specs.Scripts.{Script};
 ghost use Rattle.c_tree.specs.declared.program.Program.{Program};
 ghost use Rattle.c_tree.specs.Play.{script_of};
 ghost use Rattle.stack_code.specs.View.{code_of};
+ghost use Rattle.proc_machine.specs.Machines.{setting_of, next_of, letters_sent};
 ghost use Rattle.proc_machine.specs.Pauses.{status_of};
 ghost use Rattle.c_process.specs.Looks.{end_of, look_of, looks_at};
 ghost use Rattle.c_process.specs.Standing.{IsCodeOf, played, line_after};
@@ -26,10 +27,10 @@ pub struct CProc<'c> {
     pub(crate) me: ProcNo,
     pub(crate) count: u32,
     pub(crate) look: Look,
-    pub ghost runs: { machine.code ≡ code_of code.now },
-    pub ghost named: { machine.me ≡ me.no },
-    pub ghost few: { machine.kept.sent ≤ count },
-    pub ghost seen: { IsTrue (looks_at look machine.pause) },
+    pub ghost runs: { (setting_of machine).code ≡ code_of code.now },
+    pub ghost named: { (setting_of machine).me ≡ me },
+    pub ghost few: { letters_sent machine ≤ count },
+    pub ghost seen: { IsTrue (looks_at look (next_of machine)) },
 }
 
 impl<'c> CProc<'c> {
@@ -54,7 +55,7 @@ impl<'c> CProc<'c> {
 
     /// The bytes that it printed so far.
     pub fn output(&self) -> &[u8]
-        ensures { (p : Program) (s : Script) (letters : List Message) (k : ℕ) → IsCodeOf p self.now.machine.code → ⟦<CProc<'c> as Proc>⟧.stands_for self.now s letters k → result.now ≡ (played p self.now.machine letters k).state.output }
+        ensures { (p : Program) (s : Script) (letters : List Message) (k : ℕ) → IsCodeOf p (setting_of self.now.machine).code → ⟦<CProc<'c> as Proc>⟧.stands_for self.now s letters k → result.now ≡ (played p self.now.machine letters k).state.output }
     {
         self.machine.output()
     }
@@ -62,7 +63,7 @@ impl<'c> CProc<'c> {
     /// The line at which it is: if its next event is a Line, that event's line, otherwise the line of
     /// the last Line event of the innermost frame; without a frame the line of `main`'s name.
     pub fn line(&self) -> u32
-        ensures { (p : Program) (s : Script) (letters : List Message) (k : ℕ) → IsCodeOf p self.now.machine.code → ⟦<CProc<'c> as Proc>⟧.stands_for self.now s letters k → result ≡ line_after p self.now.machine letters k }
+        ensures { (p : Program) (s : Script) (letters : List Message) (k : ℕ) → IsCodeOf p (setting_of self.now.machine).code → ⟦<CProc<'c> as Proc>⟧.stands_for self.now s letters k → result ≡ line_after p self.now.machine letters k }
     {
         if let Pause::Line { line } = self.machine.pending() {
             return line;

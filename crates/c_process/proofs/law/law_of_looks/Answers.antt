@@ -1,5 +1,0 @@
-use Rattle.c_process.proofs.Lines.{looks_played}
-use Rattle.c_process.proofs.law.law_of_looks.Goals as goal
-
-pub returns : goal.returns
-returns c = looks_played
