@@ -1,25 +1,24 @@
 -- A step leads from where an execution stands in valid code to where it stands again.
-use Rattle.std.proofs.Common.{◌≡◌, ℕ, zero, suc, ◌+◌, ◌*◌, ◌-◌, ◌<◌, ◌≤◌, ◌^◌, ◌⊎◌, inl, inr, ⊎_elim, Bool, true, false, List, [], ◌∷◌, ◌++◌, length, take, drop, Option, Some, None, refl, sym, ap, ◌∙◌, subst, arith}
-use Rattle.std.specs.Prelude.{IsTrue, ◌&&◌, slice_get, slice_index, nat_le, nat_lt}
+use Rattle.std.proofs.Common.{◌≡◌, ℕ, zero, suc, ◌+◌, ◌<◌, ◌≤◌, ◌^◌, ◌⊎◌, inl, ⊎_elim, Bool, true, false, List, [], ◌∷◌, length, drop, Some, refl, sym, ap, ◌∙◌, subst, arith}
+use Rattle.std.specs.Prelude.{IsTrue, ◌&&◌, slice_get, nat_le, nat_lt}
 use Rattle.nm_base.specs.declared.kind.Kind.{Kind}
 use Rattle.nm_base.specs.declared.kind.Kind.TheVariants.{Ended}
 use Rattle.nm_base.specs.Word.{unary, binary, as_int}
-use Rattle.c_tree.specs.State.{State, Outcome, Done, Stopped, Run, then_on, ◌>>=◌, pure, happen_by, stop_over, or_fault, line_event}
-use Rattle.c_tree.specs.Storage.{base_of, zeroed}
+use Rattle.c_tree.specs.State.{State, Outcome, Done, Stopped, then_on, ◌>>=◌, pure, happen_by, stop_over, or_fault, line_event}
 use Rattle.c_tree.specs.Print.{printed}
 use Rattle.c_tree.specs.Expr.{choice, is_true, load, store, element, send_words, receive, of_letter, word_of, print, leave}
 use Rattle.stack_code.specs.declared.instr.Instr.{Instr}
 use Rattle.stack_code.specs.declared.instr.Instr.TheVariants as instr
-use Rattle.stack_code.specs.Code.{Placed, FunctionCode, Code, params_of, steps_of, steps_by}
-use Rattle.stack_code.specs.Forward.{IsLineAt, GoesForward}
+use Rattle.stack_code.specs.Code.{FunctionCode, Code, params_of, steps_of, steps_by}
+use Rattle.stack_code.specs.Forward.{IsLineAt}
 use Rattle.stack_code.specs.Machine.{Caller, Control, top, below, popped, local_place, param_array, open_frame, conversions, text_at, next, jumped, called, returned, act}
 use Rattle.stack_code.specs.Valid.{Operand, Value, Place, ArrayPlace, ArrayLength, IsSound, finds, follows, follows_if_any, names_fit, go_on, pushed, taking, twice, swapped, is_single, values, operands_by, operands_of}
 use Rattle.stack_code.specs.Valid as valid
 use Rattle.proc_machine.specs.View.{Small, gives}
-use Rattle.proc_machine.specs.Sound.{IsOf, AreOf, IsFound, Wait, IsSoundAt}
+use Rattle.proc_machine.specs.Sound.{IsOf, AreOf, Wait, IsSoundAt}
 use Rattle.std.proofs.lemmas.List.{length-drop}
 use Rattle.proc_machine.proofs.Calling.{popped_are}
-use Rattle.proc_machine.proofs.OfKinds.{both, taken, taken_are, tops_length, pushed_length, are_length, none_left, below_is, below_two, below_length}
+use Rattle.proc_machine.proofs.OfKinds.{both, taken, taken_are, tops_length, pushed_length, none_left, below_is, below_two, below_length}
 
 -- where a run's end leads
 then_done : {A : Type 0} (o : Outcome A) (to : A → Control) (d : Control) (u : State) → then_on o (λ a. pure (to a)) ≡ Done d u → (a : A) × (d ≡ to a)

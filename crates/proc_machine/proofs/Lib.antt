@@ -12,3 +12,8 @@ pub mod Running
 pub mod Starting
 pub mod Sets
 pub mod Standings
+pub mod Pending
+pub mod Onwards
+pub mod Alikes
+pub mod Begins
+pub mod Knows

@@ -1,7 +1,7 @@
 -- Operands of some kinds, when they are taken off.
-use Rattle.std.proofs.Common.{◌≡◌, ℕ, zero, suc, ◌+◌, ◌*◌, ◌<◌, ◌≤◌, ◌^◌, Bool, true, false, List, [], ◌∷◌, ◌++◌, length, drop, Option, Some, None, refl, sym, ap, ◌∙◌, subst, arith}
+use Rattle.std.proofs.Common.{◌≡◌, ℕ, zero, suc, ◌+◌, ◌<◌, ◌≤◌, ◌^◌, Bool, true, false, List, [], ◌∷◌, length, drop, Option, Some, None, refl, ap, subst, arith}
 use Rattle.std.specs.Prelude.{IsTrue, ◌&&◌, slice_index}
-use Rattle.stack_code.specs.Machine.{top, below}
+use Rattle.stack_code.specs.Machine.{below}
 use Rattle.stack_code.specs.Valid.{Operand, Value, Place, ArrayPlace, ArrayLength, same_operand, pushed, go_on}
 use Rattle.stack_code.specs.Valid as valid
 use Rattle.proc_machine.specs.Sound.{IsOf, AreOf}

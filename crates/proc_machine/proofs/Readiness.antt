@@ -1,5 +1,5 @@
 -- In valid code an instruction finds what it needs.
-use Rattle.std.proofs.Common.{◌≡◌, ℕ, zero, suc, ◌+◌, ◌*◌, ◌<◌, ◌≤◌, ◌^◌, ◌⊎◌, inl, inr, ⊎_elim, Bool, true, false, List, [], ◌∷◌, length, take, drop, Option, Some, None, refl, sym, ap, ◌∙◌, subst, arith, rules, tests}
+use Rattle.std.proofs.Common.{◌≡◌, ℕ, zero, suc, ◌+◌, ◌<◌, ◌≤◌, ◌^◌, ◌⊎◌, inl, inr, ⊎_elim, Bool, true, false, List, [], ◌∷◌, length, drop, Option, Some, None, refl, sym, ap, ◌∙◌, subst, arith, rules, tests}
 use Rattle.std.specs.Prelude.{IsTrue, ◌&&◌, ◌||◌, ◌==◌, not, is_none, unwrap_or, slice_get, slice_index, nat_lt, nat_le, if◌then◌else◌}
 use Rattle.std.specs.List.{list_all, list_any}
 use Rattle.std.proofs.lemmas.Bool.{ltb-true, leb-true, eqb-true}
@@ -11,9 +11,9 @@ use Rattle.stack_code.specs.Machine.{conversions, text_at}
 use Rattle.stack_code.specs.Valid.{Operand, Value, Place, IsSound, is_within, is_fit_function, is_main, laid_out_from, words_of_all, words_of_variable, is_array_at, is_length, finds, follows, follows_if_any, names_fit, go_on, pushed, taking, twice, swapped, is_single, values, operands_by, operands_of}
 use Rattle.stack_code.specs.Valid as valid
 use Rattle.proc_machine.specs.declared.execution.Execution.{Execution}
-use Rattle.proc_machine.specs.View.{control_of, frame_words_by, FramesFit}
+use Rattle.proc_machine.specs.View.{control_of, frame_words_by}
 use Rattle.proc_machine.specs.Ready.{needs, adds, is_word_at, is_named, reaches, IsReady, param_words_by}
-use Rattle.proc_machine.specs.Sound.{AreOf, IsFound, IsSoundAt, Holds}
+use Rattle.proc_machine.specs.Sound.{IsSoundAt, Holds}
 use Rattle.proc_machine.proofs.OfKinds.{both, Tops, taken, taken_are, tops_length, tops_words, all_words, pushed_words, pushed_length, are_length}
 use Rattle.proc_machine.proofs.Advancing.{length_values, twice_is, swapped_is}
 

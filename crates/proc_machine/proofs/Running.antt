@@ -1,5 +1,5 @@
 -- Runs of many steps.
-use Rattle.std.proofs.Common.{◌≡◌, ℕ, zero, suc, ◌+◌, refl, sym, ap, ◌∙◌, arith}
+use Rattle.std.proofs.Common.{◌≡◌, ℕ, zero, suc, ◌+◌, refl, ap, ◌∙◌, arith}
 use Rattle.c_tree.specs.State.{State, Outcome, Done, Stopped, then_on}
 use Rattle.stack_code.specs.Code.{Code}
 use Rattle.stack_code.specs.Machine.{Control, step, exec}

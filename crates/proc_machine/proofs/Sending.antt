@@ -1,5 +1,5 @@
 -- Sends, receives and prints stand before their events, or before a fault.
-use Rattle.std.proofs.Common.{◌≡◌, ℕ, zero, suc, ◌+◌, ◌-◌, ◌<◌, ◌≤◌, ◌^◌, get_or, Bool, true, false, List, [], ◌∷◌, ◌++◌, length, take, drop, reverse, replicate, Option, Some, None, refl, sym, ap, ◌∙◌, subst, arith, rules, tests, append_assoc, Vec, Global, Ok, lit<}
+use Rattle.std.proofs.Common.{◌≡◌, ℕ, zero, suc, ◌+◌, ◌-◌, ◌<◌, ◌≤◌, ◌^◌, get_or, Bool, true, false, List, [], ◌∷◌, ◌++◌, length, take, drop, reverse, refl, sym, ap, ◌∙◌, subst, arith, rules, tests, Vec, Global, Ok, lit<}
 use Rattle.std.proofs.lemmas.Bool.{ltb-true, leb-true}
 use Rattle.std.specs.Prelude.{IsTrue, nat_lt, nat_le, ◌&&◌, slice_index}
 use Rattle.std.proofs.lemmas.List.{append-nil, reverse-append, length-reverse, length-take, get_or-reverse}
@@ -9,7 +9,7 @@ use Rattle.nm_base.specs.declared.kind.Kind.{Kind}
 use Rattle.nm_base.specs.declared.letter.Letter.{Letter}
 use Rattle.stack_code.specs.declared.instr.Instr.TheVariants as instr
 use Rattle.stack_code.specs.Code.{Code}
-use Rattle.c_tree.specs.State.{State, Done, Run, ◌>>=◌, ◌>>◌, pure, read, change, happen}
+use Rattle.c_tree.specs.State.{Done, Run, ◌>>=◌, ◌>>◌, pure, read, change, happen}
 use Rattle.c_tree.specs.Print.{printed}
 use Rattle.c_tree.specs.Expr.{demand, padded, send, send_words, print}
 use Rattle.stack_code.specs.Machine.{Control, popped, push, next}
@@ -132,16 +132,17 @@ module _ (e : Execution) where
     pub send_makes : (code : Code) (new : Execution) (letter : Letter) → words ≤ 8 → test ≡ true → letter.id.number ≡ e.sent → letter.dest.no ≡ dest → letter.chan ≡ chan → letter.len ≡ words → letter.words ≡ padded (reverse (take words own)) → new ≡ given (words + 2) (Ok 0) (record e { sent = e.sent + 1 }) → ((events : List Kind) → sending (data_with e events 1) ≡ Done (control_of new) (data_with new (sent_by letter ∷ events) 0)) × Keeps code (instr.Send words) e new
     send_makes code new letter most h number to on len ws is =
         let same : kind_sent ≡ sent_by letter =
-            ap (λ n. Sent n (record { no = dest }) chan words (padded (reverse (take words own)))) (sym number)
-            ∙ ap (λ d. Sent letter.id.number (record { no = d }) chan words (padded (reverse (take words own)))) (sym to)
-            ∙ ap (λ d. Sent letter.id.number letter.dest d words (padded (reverse (take words own)))) (sym on)
-            ∙ ap (λ d. Sent letter.id.number letter.dest letter.chan d (padded (reverse (take words own)))) (sym len)
-            ∙ ap (λ d. Sent letter.id.number letter.dest letter.chan letter.len d) (sym ws) in
-        (λ events.
-            send_done most h events
-            ∙ ap (λ k. Done (next c (0 ∷ drop (words + 2) own)) (record (data_with e (k ∷ events) 0) { sent = e.sent + 1 })) same
-            ∙ ap (λ (x : Execution). Done (control_of x) (data_with x (sent_by letter ∷ events) 0)) (sym is),
-          subst (λ (x : Execution). Keeps code (instr.Send words) e x) (sym is) (record { small = (lit< tt, tt); height = refl; frames = λ f. f }))
+        ap (λ n. Sent n (record { no = dest }) chan words (padded (reverse (take words own)))) (sym number)
+        ∙ ap (λ d. Sent letter.id.number (record { no = d }) chan words (padded (reverse (take words own)))) (sym to)
+        ∙ ap (λ d. Sent letter.id.number letter.dest d words (padded (reverse (take words own)))) (sym on)
+        ∙ ap (λ d. Sent letter.id.number letter.dest letter.chan d (padded (reverse (take words own)))) (sym len)
+        ∙ ap (λ d. Sent letter.id.number letter.dest letter.chan letter.len d) (sym ws) in (
+          λ events.
+              send_done most h events
+              ∙ ap (λ k. Done (next c (0 ∷ drop (words + 2) own)) (record (data_with e (k ∷ events) 0) { sent = e.sent + 1 })) same
+              ∙ ap (λ (x : Execution). Done (control_of x) (data_with x (sent_by letter ∷ events) 0)) (sym is),
+          subst (λ (x : Execution). Keeps code (instr.Send words) e x) (sym is) (record { small = (lit< tt, tt); height = refl; frames = λ f. f }),
+        )
 
   module _ (text : List ℕ) (n : ℕ) (few : n ≤ length own) where
     abbrev bytes : List ℕ
@@ -180,13 +181,14 @@ module _ (e : Execution) where
         ∙ ap (λ b. push c (drop n own) (printed_if b bytes) (data_with e events 1)) h
 
     pub print_makes : (code : Code) (number : ℕ) (new : Execution) (out : Vec ℕ Global) (len : ℕ) → room ≡ true → len < 2 ^ 32 → len ≡ length bytes → out.items ≡ e.output.items ++ bytes → new ≡ given n (Ok len) (record e { output = out }) → ((events : List Kind) → printing (data_with e events 1) ≡ Done (control_of new) (data_with new (Printed len ∷ events) 0)) × Keeps code (instr.Print number) e new
-    print_makes code number new out len h small is items same =
-        (λ events.
-            print_done h events
-            ∙ ap (λ k. Done (next c (k ∷ drop n own)) (record (data_with e (Printed k ∷ events) 0) { output = e.output.items ++ bytes })) (sym is)
-            ∙ ap (λ l. Done (next c (len ∷ drop n own)) (record (data_with e (Printed len ∷ events) 0) { output = l })) (sym items)
-            ∙ ap (λ (x : Execution). Done (control_of x) (data_with x (Printed len ∷ events) 0)) (sym same),
-          subst (λ (x : Execution). Keeps code (instr.Print number) e x) (sym same) (record { small = (small, tt); height = refl; frames = λ f. f }))
+    print_makes code number new out len h small is items same = (
+      λ events.
+          print_done h events
+          ∙ ap (λ k. Done (next c (k ∷ drop n own)) (record (data_with e (Printed k ∷ events) 0) { output = e.output.items ++ bytes })) (sym is)
+          ∙ ap (λ l. Done (next c (len ∷ drop n own)) (record (data_with e (Printed len ∷ events) 0) { output = l })) (sym items)
+          ∙ ap (λ (x : Execution). Done (control_of x) (data_with x (Printed len ∷ events) 0)) (sym same),
+      subst (λ (x : Execution). Keeps code (instr.Print number) e x) (sym same) (record { small = (small, tt); height = refl; frames = λ f. f }),
+    )
 
 pub word_bounds : (words : ℕ) → IsTrue (nat_le 1 words && nat_le words 8) → (1 ≤ words) × (words ≤ 8)
 word_bounds words h = let b = both (nat_le 1 words) (nat_le words 8) h in (leb-true 1 words b.0, leb-true words 8 b.1)

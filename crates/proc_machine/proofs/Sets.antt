@@ -1,5 +1,5 @@
 -- Two proofs that a run comes to something are the same.
-use Rattle.std.proofs.Common.{◌≡◌, ℕ, List, Option}
+use Rattle.std.proofs.Common.{List, Option}
 use Rattle.std.proofs.Props.{props}
 use Rattle.nm_base.specs.declared.kind.Kind.{Kind}
 use Rattle.proc_machine.specs.declared.pause.Pause.{Pause}

@@ -1,22 +1,22 @@
 -- Where a machine stands, and how it goes on.
-use Rattle.std.proofs.Common.{◌≡◌, ◌≢◌, ℕ, zero, suc, ◌+◌, Bool, true, false, List, [], ◌∷◌, ◌++◌, length, Option, Some, None, refl, sym, ap, ◌∙◌, subst, arith}
-use Rattle.std.proofs.Math.Logic.{∥∥₁_elim, ∥∥₁_map}
+use Rattle.std.proofs.Common.{◌≡◌, ℕ, zero, suc, ◌+◌, Bool, true, false, List, [], ◌∷◌, ◌++◌, length, Option, Some, None, refl, sym, ap, ◌∙◌, arith}
+use Rattle.std.proofs.Math.Logic.{∥∥₁_elim}
 use Rattle.std.specs.Prelude.{slice_get, nat_le, option_map}
 use Rattle.std.proofs.lemmas.List.{append-nil}
 use Rattle.nm_base.specs.declared.kind.Kind.{Kind}
 use Rattle.nm_base.specs.declared.kind.Kind.TheVariants as kind
 use Rattle.nm_base.specs.declared.kind.FaultCause.TheVariants.{DataFull}
 use Rattle.nm_base.specs.Message.{Message, message_of}
-use Rattle.c_tree.specs.State.{State, Status, Able, Wants, Over, Outcome, Done, Stopped, Run, change, then_on}
+use Rattle.c_tree.specs.State.{State, Status, Able, Wants, Over, Outcome, Done, Stopped, change, then_on}
 use Rattle.c_tree.specs.Expr.{demand}
 use Rattle.stack_code.specs.Code.{FunctionCode, Code}
 use Rattle.stack_code.specs.Law as law
-use Rattle.stack_code.specs.Machine.{Control, filled, blocks_of, step, exec, started_by, open_frame, new_frame, first_data, run_code}
+use Rattle.stack_code.specs.Machine.{Control, step, exec, started_by, new_frame, first_data, run_code}
 use Rattle.stack_code.proofs.Law.{step_more}
 use Rattle.proc_machine.specs.declared.execution.Execution.{Execution}
 use Rattle.proc_machine.specs.declared.pause.Pause.{Pause}
 use Rattle.proc_machine.specs.declared.pause.Pause.TheVariants as pause
-use Rattle.proc_machine.specs.Pauses.{status_of, pause_by}
+use Rattle.proc_machine.specs.Pauses.{status_of, pause_by, pause_of, newest}
 use Rattle.proc_machine.specs.View.{control_of, data_with}
 use Rattle.proc_machine.specs.Run.{Reaches, StandsBefore}
 use Rattle.proc_machine.specs.Standing.{IsTooLarge, IsKept, shown_state, stand, ComesTo}
@@ -24,7 +24,7 @@ use Rattle.proc_machine.proofs.Running.{exec_more}
 use Rattle.proc_machine.proofs.Sets.{Outcome-set, Status-set, Pause-set}
 
 module _ (code : Code) (count me : ℕ) where
-  abbrev run : List Message → ℕ → ℕ → Outcome Control
+  abbrev pub run : List Message → ℕ → ℕ → Outcome Control
   run inputs k n = run_code code count me inputs k n
 
   -- ---- longer runs
@@ -37,7 +37,7 @@ module _ (code : Code) (count me : ℕ) where
       by (Stopped status v) h = cc
 
   module _ (letters : List Message) where
-    abbrev more : State → State
+    abbrev pub more : State → State
     more s = law.more 1 letters s
 
     exec_further : (n : ℕ) (c : Control) (s : State) (d : Control) (u : State) → exec code count me n c s ≡ Done d u → exec code count me n c (more s) ≡ Done d (more u)
@@ -116,10 +116,10 @@ module _ (code : Code) (count me : ℕ) where
 
   -- ---- what a machine knows of where it stands
 
-  abbrev Kept : Execution → Bool → Pause → Type 0
+  abbrev pub Kept : Execution → Bool → Pause → Type 0
   Kept e b n = ∥ IsKept code count me e b n ∥₁
 
-  abbrev Comes : Execution → Bool → Pause → List Message → List Kind → Type 0
+  abbrev pub Comes : Execution → Bool → Pause → List Message → List Kind → Type 0
   Comes e b n inputs events = ComesTo code count me e b n inputs events
 
   -- with no more events it stops there
@@ -127,7 +127,7 @@ module _ (code : Code) (count me : ℕ) where
   record_of inputs events status s n h = (n, h)
 
   module _ (e : Execution) (inputs : List Message) (events : List Kind) where
-    abbrev Stops : Bool → Pause → Type 0
+    abbrev pub Stops : Bool → Pause → Type 0
     Stops b n = (steps : ℕ) × (run inputs (length events) steps ≡ Stopped (status_of n) (shown_state code count me e b events))
 
     stops_begun : (n : Pause) → (steps : ℕ) → run inputs (length events) steps ≡ Done (control_of e) (data_with e events 0) → step code count me (control_of e) (data_with e events 0) ≡ Stopped (status_of n) (shown_state code count me e true events) → Stops true n
@@ -139,11 +139,96 @@ module _ (code : Code) (count me : ℕ) where
     stops true n k c = stops_begun n c.steps c.comes (∥∥₁_elim k (Outcome-set _ _) (λ h. h.1.stops events))
     stops false n k c = (c.steps, c.comes ∙ ap (λ x. Stopped x (shown_state code count me e false events)) (∥∥₁_elim k (Status-set _ _) (λ h. ap status_of (sym h.0))))
 
-    abbrev MakesIt : Pause → Type 0
+    abbrev pub MakesIt : Pause → Type 0
     MakesIt n = (steps : ℕ) × (pause_by (run inputs (suc (length events)) steps) ≡ Some n)
 
-    makes_begun : (n : Pause) → (steps : ℕ) → run inputs (length events) steps ≡ Done (control_of e) (data_with e events 0) → pause_by (step code count me (control_of e) (data_with e events 1)) ≡ Some n → MakesIt n
+    pub makes_begun : (n : Pause) → (steps : ℕ) → run inputs (length events) steps ≡ Done (control_of e) (data_with e events 0) → pause_by (step code count me (control_of e) (data_with e events 1)) ≡ Some n → MakesIt n
     makes_begun n steps h s =
         let further = run_further [] inputs (length events) steps (control_of e) (data_with e events 0) h in
         let none : inputs ++ [] ≡ inputs = append-nil inputs in
         (steps + 1, ap pause_by (ap (λ l. run l (suc (length events)) (steps + 1)) (sym none) ∙ one_step (inputs ++ []) (suc (length events)) steps (control_of e) (data_with e events 1) further) ∙ s)
+
+    pub makes_large : (n : Pause) → Kept e false n → (n ≡ pause.Done → ⊥) → MakesIt n
+    makes_large n k not = (0, by n k not)
+      where
+        told : (m : Pause) → (m ≡ pause.Fault DataFull) × IsTooLarge code e → pause_by (run inputs (suc (length events)) 0) ≡ Some m
+        told m h = ap pause_by (large_ends e h.1 inputs (length events) 0) ∙ ap Some (sym h.0)
+
+        by : (m : Pause) → Kept e false m → (m ≡ pause.Done → ⊥) → pause_by (run inputs (suc (length events)) 0) ≡ Some m
+        by pause.Done k not = absurd (not refl)
+        by m k not = ∥∥₁_elim k (Pause-set _ _) (told m)
+
+  -- ---- after an event
+
+  kind_never : (k : Kind) → pause_of k ≡ pause.Done → ⊥
+  kind_never (kind.Line line) h = cc
+  kind_never (kind.Sent number dest chan len words) h = cc
+  kind_never (kind.Accepted set id) h = cc
+  kind_never (kind.Printed bytes) h = cc
+  kind_never (kind.Ended value) h = cc
+  kind_never (kind.Faulted cause) h = cc
+
+  newest_never : (ks : List Kind) → newest ks ≡ Some pause.Done → ⊥
+  newest_never [] h = cc
+  newest_never (k ∷ ks) h = let same : pause_of k ≡ pause.Done = cc in kind_never k same
+
+  done_never : (o : Outcome Control) → pause_by o ≡ Some pause.Done → ⊥
+  done_never (Done c s) h = newest_never s.events h
+  done_never (Stopped Able s) h = newest_never s.events h
+  done_never (Stopped (Wants set) s) h = cc
+  done_never (Stopped Over s) h = newest_never s.events h
+
+  pub not_done : (e : Execution) (n : Pause) → StandsBefore code count me e n → n ≡ pause.Done → ⊥
+  not_done e n h is = done_never (step code count me (control_of e) (data_with e [] 1)) (h.next_is [] ∙ ap Some is)
+
+  pub stand_is : (e : Execution) (n : Pause) (events : List Kind) → (n ≡ pause.Done → ⊥) → stand code count me e true n events ≡ Done (control_of e) (data_with e events 0)
+  stand_is e pause.Done events h = absurd (h refl)
+  stand_is e (pause.Line line) events h = refl
+  stand_is e pause.Send events h = refl
+  stand_is e (pause.Receive set) events h = refl
+  stand_is e pause.Print events h = refl
+  stand_is e (pause.End value) events h = refl
+  stand_is e (pause.Fault cause) events h = refl
+
+  module _ (e : Execution) (n : Pause) (not : n ≡ pause.Done → ⊥) (letters : List Message) (inputs : List Message) (events : List Kind) (c : Comes e true n inputs events) where
+    abbrev pub given_one : State
+    given_one = law.more 1 letters (data_with e events 0)
+
+    there : run (inputs ++ letters) (suc (length events)) (c.steps + 1) ≡ step code count me (control_of e) given_one
+    there = one_step (inputs ++ letters) (suc (length events)) c.steps (control_of e) given_one (run_further letters inputs (length events) c.steps (control_of e) (data_with e events 0) (c.comes ∙ stand_is e n events not))
+
+    -- an event, and the run to just before the next
+    pub goes_through : (k : Kind) (e2 e3 : Execution) (n3 : Pause) → step code count me (control_of e) given_one ≡ Done (control_of e2) (data_with e2 (k ∷ events) 0) → Reaches code count me (control_of e2) (data_with e2 (k ∷ events) 0) (control_of e3) (data_with e3 (k ∷ events) 0) → StandsBefore code count me e3 n3 → Comes e3 true n3 (inputs ++ letters) (k ∷ events)
+    goes_through k e2 e3 n3 h r stands = record {
+      steps = c.steps + 1 + r.steps;
+      comes =
+          run_on (inputs ++ letters) (suc (length events)) (c.steps + 1) r.steps (control_of e2) (data_with e2 (k ∷ events) 0) (there ∙ h)
+          ∙ r.comes
+          ∙ sym (stand_is e3 n3 (k ∷ events) (not_done e3 n3 stands));
+    }
+
+    -- the last event
+    pub ends_there : (k : Kind) → step code count me (control_of e) given_one ≡ Stopped Over (shown_state code count me e true (k ∷ events)) → Comes e true pause.Done (inputs ++ letters) (k ∷ events)
+    ends_there k h = record { steps = c.steps + 1; comes = there ∙ h }
+
+  abbrev able_at : State → Outcome Control
+  able_at s = Stopped Able s
+
+  abbrev over_at : State → Outcome Control
+  over_at s = Stopped Over s
+
+  stopped_same : (s t : State) → able_at s ≡ able_at t → s ≡ t
+  stopped_same s t h = cc
+
+  never_able : (s t : State) → over_at s ≡ able_at t → ⊥
+  never_able s t h = cc
+
+  -- the fault of a main that has no room
+  pub ends_large : (e : Execution) → IsTooLarge code e → (inputs : List Message) → Comes e false (pause.Fault DataFull) inputs [] → run inputs 1 0 ≡ Stopped Over (record (data_with e (kind.Faulted DataFull ∷ []) 0) { frames = [] })
+  ends_large e large inputs c =
+      let same : first_data code count me inputs 0 ≡ record (data_with e [] 0) { frames = [] } = stopped_same (first_data code count me inputs 0) (record (data_with e [] 0) { frames = [] }) (sym (large_stops e large inputs c.steps) ∙ c.comes) in
+      large_ends e large inputs 0 0 ∙ ap (λ (s : State). Stopped Over (record s { events = kind.Faulted DataFull ∷ [] })) same
+
+  pub never_later : (e : Execution) → IsTooLarge code e → (inputs : List Message) (k : Kind) (events : List Kind) → Comes e false (pause.Fault DataFull) inputs (k ∷ events) → ⊥
+  never_later e large inputs k events c =
+      never_able (record (first_data code count me inputs (length events)) { events = kind.Faulted DataFull ∷ [] }) (record (data_with e (k ∷ events) 0) { frames = [] }) (sym (large_ends e large inputs (length events) c.steps) ∙ c.comes)

@@ -1,24 +1,21 @@
 -- The call of main, where there is room for its frame.
-use Rattle.std.proofs.Common.{◌≡◌, ℕ, zero, suc, ◌+◌, ◌≤◌, Bool, true, false, List, [], ◌∷◌, ◌++◌, length, take, replicate, Option, Some, None, refl, sym, ap, ◌∙◌, subst, arith}
+use Rattle.std.proofs.Common.{◌≡◌, ℕ, ◌+◌, ◌≤◌, Bool, true, false, List, [], ◌∷◌, ◌++◌, length, take, replicate, Option, Some, None, refl, sym, ap, ◌∙◌, subst, arith}
 use Rattle.std.specs.Prelude.{IsTrue, slice_get, option_map, nat_le}
 use Rattle.nm_base.specs.declared.kind.FaultCause.TheVariants.{DataFull}
-use Rattle.nm_base.specs.declared.letter.Letter.{Letter}
 use Rattle.nm_base.specs.Message.{Message, message_of}
-use Rattle.c_tree.specs.State.{State, Outcome, Done, Stopped, then_on, Run}
-use Rattle.c_tree.specs.State as state
+use Rattle.c_tree.specs.State.{State, Done, then_on, Run}
 use Rattle.c_tree.specs.Expr.{demand}
 use Rattle.stack_code.specs.Code.{FunctionCode, Code}
-use Rattle.stack_code.specs.Machine.{Control, run_code, started_by, first_data, new_frame, exec}
+use Rattle.stack_code.specs.Machine.{Control, run_code, started_by, first_data, exec}
 use Rattle.stack_code.specs.Valid.{IsSound, is_within}
 use Rattle.stack_code.specs.declared.code.FunctionFrame.{FunctionFrame}
 use Rattle.stack_code.specs.Frame.{frame_of}
 use Rattle.proc_machine.specs.declared.callers.Caller.{Caller as KeptCaller}
 use Rattle.proc_machine.specs.declared.execution.Execution.{Execution}
-use Rattle.proc_machine.specs.View.{callers_of, frames_in, control_of, data_with, FramesFit, CallersFit, frame_words_by}
+use Rattle.proc_machine.specs.View.{callers_of, frames_in, control_of, data_with, CallersFit, frame_words_by}
 use Rattle.proc_machine.specs.Sound.{IsSoundAt, Holds}
 use Rattle.proc_machine.specs.Standing.{IsFresh}
 use Rattle.proc_machine.proofs.Sending.{has_room}
-
 
 module _ (code : Code) (e : Execution) (fresh : IsFresh code e) (words : List ℕ) where
   abbrev new : Execution

@@ -1,28 +1,28 @@
 -- One step of an execution, and a run of many.
-use Rattle.std.proofs.Common.{◌≡◌, ℕ, zero, suc, ◌+◌, ◌-◌, ◌*◌, ◌<◌, ◌≤◌, Bool, true, false, List, [], ◌∷◌, length, Option, Some, None, refl, sym, ap, ◌∙◌, subst, arith, mul-le-mul_right}
+use Rattle.std.proofs.Common.{◌≡◌, ℕ, suc, ◌+◌, ◌-◌, ◌*◌, ◌<◌, ◌≤◌, Bool, true, false, List, [], ◌∷◌, length, Option, Some, None, refl, sym, ap, ◌∙◌, subst, arith, mul-le-mul_right}
 use Rattle.std.proofs.Math.Nat.{suc-mul}
 use Rattle.std.proofs.Math.Logic.{∥∥₁_elim, ∥∥₁_map}
 use Rattle.std.proofs.Props.{props}
 use Rattle.std.specs.Prelude.{IsTrue, option_map, slice_get, if◌then◌else◌}
 use Rattle.nm_base.specs.declared.kind.Kind.{Kind}
-use Rattle.c_tree.specs.State.{State, Status, Outcome, Done, Stopped, Able, Wants, Over, then_on}
+use Rattle.c_tree.specs.State.{State, Outcome, Done, Stopped, Able, Wants, Over}
 use Rattle.stack_code.specs.declared.instr.Instr.{Instr}
 use Rattle.stack_code.specs.declared.instr.Instr.TheVariants as instr
-use Rattle.stack_code.specs.Code.{Placed, FunctionCode, Code, steps_of}
-use Rattle.stack_code.specs.Forward.{IsLineAt, Advance, Ahead, AtLine, Back}
+use Rattle.stack_code.specs.Code.{Placed, Code, steps_of}
+use Rattle.stack_code.specs.Forward.{Advance, Ahead, AtLine, Back}
 use Rattle.stack_code.specs.Valid.{finds, follows}
-use Rattle.stack_code.specs.Machine.{Caller, Control, filled, blocks_of, act, act_if_any, shown, step, exec}
+use Rattle.stack_code.specs.Machine.{Caller, Control, act, act_if_any, shown, step}
 use Rattle.stack_code.proofs.Forward.{step_advances}
 use Rattle.proc_machine.specs.declared.callers.Caller.{Caller as KeptCaller}
 use Rattle.proc_machine.specs.declared.execution.Execution.{Execution}
 use Rattle.proc_machine.specs.declared.pause.Pause.{Pause}
 use Rattle.proc_machine.specs.declared.pause.Pause.TheVariants as pause
-use Rattle.proc_machine.specs.Stacked.{upper, lower}
-use Rattle.proc_machine.specs.Pauses.{status_of, pause_by}
+use Rattle.proc_machine.specs.Stacked.{lower}
+use Rattle.proc_machine.specs.Pauses.{pause_by}
 use Rattle.proc_machine.specs.View.{callers_of, control_of, data_with, Pauses, Keeps, Moves, IsLast, waits}
-use Rattle.proc_machine.specs.Sound.{IsSoundAt, Holds}
+use Rattle.proc_machine.specs.Sound.{Holds}
 use Rattle.proc_machine.specs.Ready.{IsReady}
-use Rattle.proc_machine.specs.Run.{IsLastThere, Reaches, StandsBefore, waits_at, is_line, is_line_at, way, GoesOn, Steps}
+use Rattle.proc_machine.specs.Run.{IsLastThere, StandsBefore, waits_at, is_line, is_line_at, way, GoesOn, Steps}
 use Rattle.proc_machine.proofs.Advancing.{act_sound}
 use Rattle.proc_machine.proofs.Readiness.{there, is_there, ready, it_follows, params_are}
 
@@ -53,7 +53,7 @@ within_by code e h = ∥∥₁_elim h (hlevel props) (λ k. is_there code 0 0 e 
 
 -- ---- what is shown
 
-by_shown : (code : Code) (count me : ℕ) (c : Control) (r : Outcome Control) → pause_by (shown code count me c r) ≡ pause_by r
+pub by_shown : (code : Code) (count me : ℕ) (c : Control) (r : Outcome Control) → pause_by (shown code count me c r) ≡ pause_by r
 by_shown code count me c (Done d u) = refl
 by_shown code count me c (Stopped Able u) = refl
 by_shown code count me c (Stopped (Wants set) u) = refl

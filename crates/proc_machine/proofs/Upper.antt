@@ -1,9 +1,9 @@
 -- The operands above and below a base, when the vector that holds them grows and shrinks at its end.
-use Rattle.std.proofs.Common.{◌≡◌, ℕ, zero, suc, ◌+◌, ◌-◌, ◌*◌, ◌<◌, ◌≤◌, List, [], ◌∷◌, ◌++◌, length, take, drop, reverse, replicate, min, refl, sym, ap, ◌∙◌, subst, arith, length-append, mul-le-mul_right}
+use Rattle.std.proofs.Common.{◌≡◌, ℕ, zero, suc, ◌+◌, ◌-◌, ◌*◌, ◌<◌, ◌≤◌, List, [], ◌∷◌, ◌++◌, length, take, drop, reverse, replicate, min, refl, sym, ap, ◌∙◌, arith, length-append, mul-le-mul_right}
 use Rattle.std.specs.Prelude.{slice_index, slice_set}
 use Rattle.c_tree.specs.Storage.{zeroed}
 use Rattle.std.proofs.Math.Nat.{suc-mul}
-use Rattle.std.proofs.lemmas.List.{reverse-append, reverse-reverse, length-reverse, take-append-drop, length-drop, length-take}
+use Rattle.std.proofs.lemmas.List.{reverse-append, reverse-reverse, length-reverse, take-append-drop, length-drop}
 use Rattle.proc_machine.specs.declared.callers.Caller.{Caller}
 use Rattle.proc_machine.specs.Stacked.{OperandStack, Fits, upper, lower}
 

@@ -8,3 +8,4 @@ pub mod Run
 pub mod Standing
 pub mod Start
 pub mod Machines
+pub mod Alike

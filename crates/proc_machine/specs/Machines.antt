@@ -1,12 +1,13 @@
 -- What a machine stands for.
-use Rattle.std.specs.Prelude.{◌≡◌, ℕ, suc, ◌-◌, Bool, true, false, List, [], ◌∷◌, map, length, Option, Some}
+use Rattle.std.specs.Prelude.{◌≡◌, ℕ, suc, ◌+◌, ◌-◌, ◌≤◌, List, [], ◌∷◌, ◌++◌, length, Some}
 use Rattle.std.specs.Vec.{vec_len, vec_capacity}
 use Rattle.nm_base.specs.declared.kind.Kind.{Kind}
 use Rattle.nm_base.specs.declared.letter.ProcNo.{ProcNo}
-use Rattle.nm_base.specs.Message.{Message}
+use Rattle.nm_base.specs.declared.kind.Kind.TheVariants as kind
+use Rattle.nm_base.specs.declared.letter.Letter.{Letter}
+use Rattle.nm_base.specs.Message.{Message, message_of}
 use Rattle.c_tree.specs.State.{State, Stopped}
 use Rattle.c_tree.specs.State as state
-use Rattle.stack_code.specs.declared.seek.CodePlace.{CodePlace}
 use Rattle.stack_code.specs.Code.{Code}
 use Rattle.stack_code.specs.Machine.{Caller, Control, run_code}
 use Rattle.stack_code.specs.View.{code_of}
@@ -14,7 +15,7 @@ use Rattle.proc_machine.specs.declared.machine.Machine.{Machine}
 use Rattle.proc_machine.specs.declared.machine.MachineFrame.{MachineFrame}
 use Rattle.proc_machine.specs.declared.pause.Pause.{Pause}
 use Rattle.proc_machine.specs.declared.pause.Pause.TheVariants as pause
-use Rattle.proc_machine.specs.Pauses.{status_of, pause_by}
+use Rattle.proc_machine.specs.Pauses.{status_of, pause_by, pause_of}
 use Rattle.proc_machine.specs.View.{control_of}
 use Rattle.proc_machine.specs.Standing.{ComesTo, shown_state}
 
@@ -87,3 +88,17 @@ pub record IsSame (a b : Machine) : Type 0 where
   pub letter : b.execution.letter ≡ a.execution.letter
   pub output : b.execution.output.items ≡ a.execution.output.items
   pub sent : b.execution.sent ≡ a.execution.sent
+
+-- it made this event, before which it stood, and stands before the next
+pub record IsAdvanced (old new : Machine) (made : Kind) : Type 0 where
+  pub stands : (inputs : List Message) (events : List Kind) → StandsFor old inputs events → StandsFor new inputs (made ∷ events)
+  pub fits : pause_of made ≡ old.next
+  pub setting : setting_of new ≡ setting_of old
+  pub sent : letters_sent new ≤ letters_sent old + 1
+
+-- it accepted this letter, and stands before the next event
+pub record HasAccepted (old new : Machine) (set : ℕ) (letter : Letter) (made : Kind) : Type 0 where
+  pub kind_is : made ≡ kind.Accepted set letter.id
+  pub stands : (inputs : List Message) (events : List Kind) → StandsFor old inputs events → StandsFor new (inputs ++ message_of letter ∷ []) (made ∷ events)
+  pub setting : setting_of new ≡ setting_of old
+  pub sent : letters_sent new ≡ letters_sent old

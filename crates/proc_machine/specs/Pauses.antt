@@ -1,11 +1,11 @@
 -- What comes next.
-use Rattle.std.specs.Prelude.{◌≡◌, ℕ, List, [], ◌∷◌, Option, Some, None, Result, Ok, Err, ◌+◌, nat_lt, length, slice_index, if◌then◌else◌}
+use Rattle.std.specs.Prelude.{ℕ, List, [], ◌∷◌, Option, Some, None, Result, Ok, Err, ◌+◌, nat_lt, length, slice_index, if◌then◌else◌}
 use Rattle.nm_base.specs.declared.kind.Kind.{Kind}
 use Rattle.nm_base.specs.declared.kind.Kind.TheVariants as kind
 use Rattle.nm_base.specs.declared.kind.FaultCause.{FaultCause}
 use Rattle.nm_base.specs.declared.kind.FaultCause.TheVariants.{Index, NoLetter}
 use Rattle.nm_base.specs.Message.{Message}
-use Rattle.c_tree.specs.State.{State, Status, Able, Wants, Over, Outcome, Done, Stopped, Run}
+use Rattle.c_tree.specs.State.{Status, Able, Wants, Over, Outcome, Done, Stopped}
 use Rattle.stack_code.specs.Machine.{Control}
 use Rattle.proc_machine.specs.declared.pause.Pause.{Pause}
 use Rattle.proc_machine.specs.declared.pause.Pause.TheVariants as pause

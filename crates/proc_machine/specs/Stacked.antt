@@ -1,6 +1,7 @@
 -- Operands of calls that stand one on the other.
-use Rattle.std.specs.Prelude.{ℕ, ◌-◌, ◌<◌, ◌≤◌, List, [], ◌∷◌, length, take, drop}
+use Rattle.std.specs.Prelude.{ℕ, ◌-◌, ◌<◌, ◌≤◌, List, [], ◌∷◌, ◌++◌, length, take, drop}
 use Rattle.proc_machine.specs.declared.callers.Caller.{Caller}
+use Rattle.proc_machine.specs.declared.callers.Frame.{Frame}
 
 -- the operands above the lowest so many, the topmost first, and those lowest ones
 abbrev pub upper : ℕ → List ℕ → List ℕ
@@ -26,3 +27,15 @@ pub record Calls : Type 0 where
 abbrev pub Fits : ℕ → List Caller → List ℕ → Type 0
 Fits height [] outer = length outer ≤ 0
 Fits height (k ∷ ks) outer = (length (upper k.below outer) < height) × Fits height ks (lower k.below outer)
+
+-- the function with this frame calls: its operands are now a caller's
+abbrev pub entered : Frame → Calls → Calls
+entered frame c = record c {
+  own = [];
+  outer = c.own ++ c.outer;
+  callers = record { frame = frame; below = length c.outer } ∷ c.callers;
+}
+
+-- this caller goes on, after those round it
+abbrev pub left_to : Caller → List Caller → Calls → Calls
+left_to k ks c = record c { own = upper k.below c.outer; outer = lower k.below c.outer; callers = ks }

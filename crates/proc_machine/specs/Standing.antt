@@ -1,16 +1,14 @@
 -- Where a machine stands in a run of the code.
-use Rattle.std.specs.Prelude.{◌≡◌, ℕ, suc, ◌+◌, ◌-◌, ◌*◌, ◌<◌, ◌≤◌, ◌^◌, Bool, true, false, List, [], ◌∷◌, ◌++◌, length, map, Option, Some, None, slice_get, nat_le, option_map}
-use Rattle.std.specs.Vec.{vec_len, vec_capacity}
+use Rattle.std.specs.Prelude.{◌≡◌, ℕ, ◌+◌, ◌*◌, ◌<◌, ◌≤◌, ◌^◌, Bool, true, false, List, [], length, Some, None, slice_get, nat_le, option_map}
 use Rattle.nm_base.specs.declared.kind.Kind.{Kind}
 use Rattle.nm_base.specs.declared.kind.FaultCause.TheVariants.{DataFull}
 use Rattle.nm_base.specs.Message.{Message}
-use Rattle.c_tree.specs.State.{State, Status, Able, Over, Outcome, Done, Stopped}
+use Rattle.c_tree.specs.State.{State, Able, Over, Outcome, Done, Stopped}
 use Rattle.stack_code.specs.Code.{FunctionCode, Code, steps_of}
 use Rattle.stack_code.specs.Machine.{Control, filled, blocks_of, run_code}
 use Rattle.proc_machine.specs.declared.execution.Execution.{Execution}
 use Rattle.proc_machine.specs.declared.pause.Pause.{Pause}
 use Rattle.proc_machine.specs.declared.pause.Pause.TheVariants as pause
-use Rattle.proc_machine.specs.Pauses.{status_of, pause_by}
 use Rattle.proc_machine.specs.View.{control_of, data_with}
 use Rattle.proc_machine.specs.Sound.{Holds}
 use Rattle.proc_machine.specs.Run.{StandsBefore}

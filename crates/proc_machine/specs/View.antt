@@ -1,5 +1,5 @@
 -- What the definitions of the machine see of an execution.
-use Rattle.std.specs.Prelude.{◌≡◌, ℕ, zero, suc, ◌+◌, ◌-◌, ◌<◌, ◌≤◌, ◌^◌, slice_get, IsTrue, Bool, true, false, ◌==◌, List, [], ◌∷◌, ◌++◌, length, take, drop, reverse, replicate, Option, Some, None, option_map, Result, Ok, Err}
+use Rattle.std.specs.Prelude.{◌≡◌, ℕ, zero, suc, ◌+◌, ◌<◌, ◌≤◌, ◌^◌, slice_get, IsTrue, Bool, true, false, ◌==◌, List, [], ◌∷◌, ◌++◌, length, take, drop, reverse, replicate, Option, Some, None, option_map, Result, Ok, Err}
 use Rattle.nm_base.specs.declared.kind.Kind.{Kind}
 use Rattle.nm_base.specs.declared.kind.Kind.TheVariants as kind
 use Rattle.nm_base.specs.declared.kind.FaultCause.{FaultCause}
@@ -17,7 +17,7 @@ use Rattle.proc_machine.specs.declared.callers.Caller.{Caller as KeptCaller}
 use Rattle.proc_machine.specs.declared.execution.Execution.{Execution}
 use Rattle.proc_machine.specs.declared.pause.Pause.{Pause}
 use Rattle.proc_machine.specs.declared.pause.Pause.TheVariants as pause
-use Rattle.proc_machine.specs.Stacked.{OperandStack, upper, lower}
+use Rattle.proc_machine.specs.Stacked.{upper, lower}
 use Rattle.proc_machine.specs.Pauses.{status_of, pause_by}
 
 -- the callers, whose operands stand one on the other
@@ -154,10 +154,16 @@ abbrev pub Makes : Code → ℕ → ℕ → Instr → Execution → Execution �
 Makes code count me i old new k =
     ((events : List Kind) → act code count me i (control_of old) (data_with old events 1) ≡ Done (control_of new) (data_with new (k ∷ events) 0)) × Keeps code i old new
 
+-- its data where one more event may be made and this letter is to come
+abbrev pub data_to_take : Execution → List Kind → Letter → State
+data_to_take e events letter = record (data_with e events 1) { inputs = message_of letter ∷ [] }
+
 -- a receive takes this letter
 abbrev pub Takes : Code → ℕ → ℕ → Execution → Execution → ℕ → Letter → Type 0
 Takes code count me old new set letter =
-    ((events : List Kind) → act code count me instr.Receive (control_of old) (record (data_with old events 1) { inputs = message_of letter ∷ [] }) ≡ Done (control_of new) (data_with new (kind.Accepted set letter.id ∷ events) 0)) × Keeps code instr.Receive old new
+    ((events : List Kind) →
+    act code count me instr.Receive (control_of old) (data_to_take old events letter) ≡ Done (control_of new) (data_with new (kind.Accepted set letter.id ∷ events) 0))
+    × Keeps code instr.Receive old new
 
 -- the event that sends a letter
 abbrev pub sent_by : Letter → Kind

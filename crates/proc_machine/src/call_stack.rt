@@ -1,7 +1,7 @@
 //! The calls that haven't returned, with the operands of each.
 
 ghost use Rattle.std.specs.Prelude.{◌≡◌, ℕ, ◌+◌, ◌-◌, ◌*◌, ◌<◌, ◌≤◌, ◌^◌, [], ◌∷◌, ◌++◌, length, take, drop, reverse, slice_index, slice_get, Some, IfOk, IfSome, MatchOption};
-ghost use Rattle.proc_machine.specs.Stacked.{upper, lower};
+ghost use Rattle.proc_machine.specs.Stacked.{entered, left_to};
 
 use crate::callers::{Caller, Callers, Frame};
 use crate::operands::Operands;
@@ -95,7 +95,7 @@ impl CallStack {
         requires room { length self.old.own < self.old.height }
         requires depth { length self.old.callers < 255 }
         requires onward { frame.place + 1 < 2 ^ 32 }
-        ensures { self.new ≡ record self.old { own = []; outer = self.old.own ++ self.old.outer; callers = record { frame = frame; below = length self.old.outer } ∷ self.old.callers } }
+        ensures { self.new ≡ entered frame self.old }
     {
         let below = self.operands.enter();
         self.callers.push(Caller { frame, below });
@@ -103,7 +103,7 @@ impl CallStack {
 
     /// The innermost caller goes on, if there is one.
     pub(crate) fn leave(&mut self) -> Option<Caller>
-        ensures taken { MatchOption result ((self.old.callers ≡ []) × (self.new ≡ self.old)) (λ k. (self.old.callers ≡ k ∷ self.new.callers) × (self.new ≡ record self.old { own = upper k.below self.old.outer; outer = lower k.below self.old.outer; callers = self.new.callers })) }
+        ensures taken { MatchOption result ((self.old.callers ≡ []) × (self.new ≡ self.old)) (λ k. (self.old.callers ≡ k ∷ self.new.callers) × (self.new ≡ left_to k self.new.callers self.old)) }
         ensures onward { IfSome result (λ k. (k.frame.place + 1 < 2 ^ 32) × (length self.new.own < self.new.height)) }
     {
         match self.callers.pop() {

@@ -56,8 +56,7 @@ impl Execution {
     {
         let base = self.words.len() as u32;
         let params = frame.param_words as usize;
-        self.words
-            .open(self.calls.last(params), frame.frame_words);
+        self.words.open(self.calls.last(params), frame.frame_words);
         self.calls.discard(params);
         self.calls.enter(self.frame);
         self.frame = Frame {

@@ -16,13 +16,14 @@ use crate::execution::{Execution, Setting};
 use crate::messages::conversions;
 use crate::printing::push_printed;
 use crate::words::word_or_zero;
-use nm_base::{Letter, LetterId, ProcNo, Stamp};
+use nm_base::{Kind, Letter, LetterId, ProcNo, Stamp};
 
 impl Execution {
     /// Comes to a line.
     pub(crate) fn pass_line(&mut self, at: Setting<'_>, line: u32)
         requires { IsReady (code_of at.code.now) (instr.Line line) self.old }
-        ensures { Makes (code_of at.entry.code.now) at.entry.count at.entry.me.no (instr.Line line) self.old self.new (kind.Line line) }
+        ensures made { Makes (code_of at.entry.code.now) at.entry.count at.entry.me.no (instr.Line line) self.old self.new (kind.Line line) }
+        ensures sent { self.new.sent ≡ self.old.sent }
     {
         self.frame.line = line;
         self.frame.place += 1;
@@ -33,7 +34,8 @@ impl Execution {
         requires ready { IsReady (code_of at.code.now) instr.Receive self.old }
         requires set_is { slice_index self.old.calls.own 0 ≡ set }
         requires some { 0 < set }
-        ensures { Takes (code_of at.entry.code.now) at.entry.count at.entry.me.no self.old self.new set letter }
+        ensures made { Takes (code_of at.entry.code.now) at.entry.count at.entry.me.no self.old self.new set letter }
+        ensures sent { self.new.sent ≡ self.old.sent }
     {
         let first = if letter.len == 0 { 0 } else { letter.words[0] };
         self.letter = Some(letter);
@@ -46,6 +48,7 @@ impl Execution {
         requires addressed { IsTrue (is_addressed at.count words self.old.calls.own) }
         requires few { self.old.sent + 1 < 2 ^ 32 }
         ensures made { Makes (code_of at.entry.code.now) at.entry.count at.entry.me.no (instr.Send words) self.old self.new (sent_by result) }
+        ensures sent { self.new.sent ≡ self.old.sent + 1 }
         ensures named { result.id ≡ record { sender = at.entry.me; number = self.old.sent } }
         ensures unposted { (result.posted ≡ 0) × (result.stamp.parts ≡ replicate 32 0) }
     {
@@ -74,7 +77,8 @@ impl Execution {
         requires ready { IsReady (code_of at.code.now) (instr.Print text) self.old }
         requires room { IsTrue (has_room (code_of at.code.now) text self.old) }
         requires spare { vec_len self.old.output + 4096 ≤ vec_capacity self.old.output }
-        ensures { Makes (code_of at.entry.code.now) at.entry.count at.entry.me.no (instr.Print text) self.old self.new (kind.Printed result) }
+        ensures made { Makes (code_of at.entry.code.now) at.entry.count at.entry.me.no (instr.Print text) self.old self.new (kind.Printed result) }
+        ensures sent { self.new.sent ≡ self.old.sent }
     {
         let bytes = at.code.text(text);
         let count = conversions(bytes);
@@ -96,4 +100,17 @@ fn padded(words: &[u64]) -> [u32; 8]
         padded[i] = word_or_zero(words, i);
     }
     padded
+}
+
+/// The event that sends a letter.
+pub(crate) fn sent_by(letter: &Letter) -> Kind
+    ensures { result ≡ sent_by letter.now }
+{
+    Kind::Sent {
+        number: letter.id.number,
+        dest: letter.dest,
+        chan: letter.chan,
+        len: letter.len,
+        words: letter.words,
+    }
 }

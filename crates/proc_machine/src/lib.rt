@@ -10,6 +10,7 @@ mod execute;
 mod execution;
 mod machine;
 mod messages;
+mod onward;
 mod operands;
 mod pause;
 mod printing;

@@ -3,10 +3,11 @@
 ghost use Rattle.proc_machine.specs.Standing.{IsKept};
 ghost use Rattle.stack_code.specs.View.{code_of};
 
+use crate::events::sent_by;
 use crate::execution::{Execution, Setting};
 use crate::pause::Pause;
 use nm_base::{FaultCause, Kind, Letter, ProcNo, WantOfMemory};
-use stack_code::{Code, CodePlace, Instr};
+use stack_code::{Code, CodePlace};
 use std::alloc::Global;
 
 /// A process that runs code, just before an event.
@@ -30,16 +31,17 @@ pub struct MachineFrame {
 }
 
 impl<'c> Machine<'c> {
-    ghost use Rattle.std.specs.Prelude.{◌≡◌, ℕ, ◌+◌, ◌<◌, ◌≤◌, ◌^◌, List, [], ◌∷◌, ◌++◌, length, replicate, slice_get, slice_index, Some, option_map, IsTrue, IfOk, IfSome, OnOk, OnErr};
+    ghost use Rattle.std.specs.Prelude.{◌≡◌, ℕ, ◌+◌, ◌<◌, ◌≤◌, ◌^◌, List, [], ◌∷◌, ◌++◌, length, replicate, slice_get, slice_index, Some, option_map, IsTrue, true, IfOk, IfSome, OnOk};
     ghost use Rattle.nm_base.specs.declared.kind.Kind.{Kind};
     ghost use Rattle.nm_base.specs.declared.kind.Kind.TheVariants as kind;
     ghost use Rattle.nm_base.specs.Message.{Message, message_of};
-    ghost use Rattle.nm_base.specs.Scripts.{message_sent};
+    ghost use Rattle.nm_base.specs.Scripts.{message_sent, is_last};
     ghost use Rattle.nm_base.specs.Channels.{has_channel};
     ghost use Rattle.proc_machine.specs.declared.pause.Pause.TheVariants as pause;
     ghost use Rattle.proc_machine.specs.Pauses.{pause_of};
+    ghost use Rattle.proc_machine.specs.View.{sent_by};
     ghost use Rattle.proc_machine.specs.Standing.{goes_by_itself};
-    ghost use Rattle.proc_machine.specs.Machines.{StandsFor, Expects, MakesNext, IsSame, setting_of, next_of, state_of, frames_of, spare_output, letters_sent};
+    ghost use Rattle.proc_machine.specs.Machines.{StandsFor, Expects, MakesNext, IsSame, IsAdvanced, HasAccepted, setting_of, next_of, state_of, frames_of, spare_output, letters_sent};
 
     /// A machine that runs the code as process `me` of `n`, just before its first event. It reserves
     /// the memory for data, frames and operands. Conditions: `me` is below `n`, and `n` is 1 to 32.
@@ -141,5 +143,108 @@ impl<'c> Machine<'c> {
             .output
             .reserve(4096)
             .map_err(|_| WantOfMemory)
+    }
+
+    /// Makes the event before which it stands, and runs on to the next; a Sent comes with its
+    /// letter. Conditions: it stands before no receive and isn't done, 4,096 bytes of output are
+    /// spare, and it sent fewer than 4,294,967,295 letters.
+    pub fn advance(&mut self) -> (Kind, Option<Letter>)
+        requires moves { IsTrue (goes_by_itself (next_of self.old)) }
+        requires spare { 4096 ≤ spare_output self.old }
+        requires few { letters_sent self.old + 1 < 2 ^ 32 }
+        ensures made { IsAdvanced self.old self.new result.0 }
+        ensures letter { option_map message_of result.1 ≡ message_sent (setting_of self.old).me result.0 }
+        ensures unposted { IfSome result.1 (λ l. (l.posted ≡ 0) × (l.stamp.parts ≡ replicate 32 0)) }
+    {
+        match self.next {
+            Pause::Line { line } => (self.come_to_line(line), None),
+            Pause::Send => {
+                let letter = self.send();
+                (sent_by(&letter), Some(letter))
+            }
+            Pause::Print => (self.print(), None),
+            Pause::End { value } => (self.end(Kind::Ended { value }), None),
+            Pause::Fault { cause } => (self.end(Kind::Faulted { cause }), None),
+            Pause::Receive { .. } | Pause::Done => unreachable!(),
+        }
+    }
+
+    /// Accepts a letter, and runs on to the next event. Conditions: it stands before a receive, and
+    /// the receive's set names the letter's channel.
+    pub fn accept(&mut self, letter: Letter) -> Kind
+        requires { (set : ℕ) × (next_of self.old ≡ pause.Receive set) × (has_channel set letter.chan ≡ true) }
+        ensures { (set : ℕ) → next_of self.old ≡ pause.Receive set → HasAccepted self.old self.new set letter result }
+    {
+        match self.next {
+            Pause::Receive { set } => self.take(set, letter),
+            _ => unreachable!(),
+        }
+    }
+
+    /// A machine that stands for the same, with as much memory reserved.
+    pub fn copy(&self, alloc: Global) -> Result<Machine<'c>, WantOfMemory>
+        ensures same { IfOk result (IsSame self.now) }
+        ensures stands { IfOk result (λ m. (inputs : List Message) (events : List Kind) → StandsFor self.now inputs events → StandsFor m inputs events) }
+    {
+        let execution = self.execution.copy(alloc)?;
+        Ok(Machine {
+            setting: self.setting,
+            execution,
+            begun: self.begun,
+            next: self.next,
+        })
+    }
+
+    fn come_to_line(&mut self, line: u32) -> Kind
+        requires { next_of self.old ≡ pause.Line line }
+        ensures made { IsAdvanced self.old self.new result }
+        ensures kind_is { result ≡ kind.Line line }
+    {
+        self.next = self.execution.go_past_line(self.setting, line);
+        Kind::Line { line }
+    }
+
+    fn send(&mut self) -> Letter
+        requires waits { next_of self.old ≡ pause.Send }
+        requires few { letters_sent self.old + 1 < 2 ^ 32 }
+        ensures made { IsAdvanced self.old self.new (sent_by result) }
+        ensures named { result.id.sender ≡ (setting_of self.old).me }
+        ensures unposted { (result.posted ≡ 0) × (result.stamp.parts ≡ replicate 32 0) }
+    {
+        let words = self.execution.words_to_send(self.setting);
+        let (letter, next) = self.execution.go_past_send(self.setting, words);
+        self.next = next;
+        letter
+    }
+
+    fn print(&mut self) -> Kind
+        requires waits { next_of self.old ≡ pause.Print }
+        requires spare { 4096 ≤ spare_output self.old }
+        ensures made { IsAdvanced self.old self.new result }
+        ensures kind_is { (bytes : ℕ) × (result ≡ kind.Printed bytes) }
+    {
+        let text = self.execution.text_to_print(self.setting);
+        let (bytes, next) = self.execution.go_past_print(self.setting, text);
+        self.next = next;
+        Kind::Printed { bytes }
+    }
+
+    /// Makes the last event.
+    fn end(&mut self, last: Kind) -> Kind
+        requires last { IsTrue (is_last last) }
+        requires waits { next_of self.old ≡ pause_of last }
+        ensures made { IsAdvanced self.old self.new last }
+        ensures same { result ≡ last }
+    {
+        self.next = Pause::Done;
+        last
+    }
+
+    fn take(&mut self, set: u32, letter: Letter) -> Kind
+        requires { next_of self.old ≡ pause.Receive set }
+        ensures { HasAccepted self.old self.new set letter result }
+    {
+        self.next = self.execution.go_past_receive(self.setting, set, letter);
+        Kind::Accepted { set, id: letter.id }
     }
 }

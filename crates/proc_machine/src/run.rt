@@ -4,8 +4,7 @@ ghost use Rattle.std.specs.Prelude.{◌≡◌, ℕ, List};
 ghost use Rattle.nm_base.specs.declared.kind.Kind.{Kind};
 ghost use Rattle.stack_code.specs.View.{code_of};
 ghost use Rattle.proc_machine.specs.Sound.{Holds};
-ghost use Rattle.proc_machine.specs.View.{control_of, data_with};
-ghost use Rattle.proc_machine.specs.Run.{Steps, Reaches, StandsBefore};
+ghost use Rattle.proc_machine.specs.Run.{Steps, RunsOn, StandsBefore};
 
 use crate::execution::{Execution, Setting};
 use crate::pause::Pause;
@@ -25,7 +24,7 @@ impl Execution {
     pub(crate) fn run(&mut self, at: Setting<'_>) -> Pause
         requires { ∥ Holds (code_of at.code.now) self.old ∥₁ }
         ensures holds { ∥ Holds (code_of at.entry.code.now) self.new ∥₁ }
-        ensures reaches { (events : List Kind) → Reaches (code_of at.entry.code.now) at.entry.count at.entry.me.no (control_of self.old) (data_with self.old events 0) (control_of self.new) (data_with self.new events 0) }
+        ensures reaches { (events : List Kind) → RunsOn (code_of at.entry.code.now) at.entry.count at.entry.me.no self.old self.new events }
         ensures sent { self.new.sent ≡ self.old.sent }
         ensures stands { StandsBefore (code_of at.entry.code.now) at.entry.count at.entry.me.no self.new result }
     {

@@ -1,5 +1,5 @@
-use Rattle.std.proofs.Common.{◌≡◌, ◌-◌, ◌/◌, ◌%◌, ◌<◌, ◌++◌, ◌∷◌, [], ℕ, List, suc, sym, append_assoc, ap, ◌∙◌, arith}
-use Rattle.c_tree.specs.Print.{digit, digits}
+use Rattle.std.proofs.Common.{◌≡◌, ◌-◌, ◌/◌, ◌++◌, ◌∷◌, [], ℕ, List, suc, sym, append_assoc, ap, ◌∙◌, arith}
+use Rattle.c_tree.specs.Print.{digits}
 use Rattle.proc_machine.proofs.Prints.{one_digit, more_digits}
 use Rattle.proc_machine.proofs.printing.+push_digits.Goals as goal
 use Rattle.proc_machine.proofs.printing.+push_digits.Goals.{then-n-base-gt0, else-n-base-gt0}

@@ -1,7 +1,7 @@
-use Rattle.std.proofs.Common.{◌≡◌, ℕ, Bool, List, rules, tests, ◌-◌, ◌+◌, ◌≤◌, ◌++◌, ◌∷◌, [], true, false, length, drop, sym, ap, ◌∙◌, arith, get_or}
-use Rattle.std.specs.Prelude.{slice_index, if◌then◌else◌, ◌==◌}
+use Rattle.std.proofs.Common.{◌≡◌, ℕ, Bool, rules, tests, ◌+◌, ◌++◌, ◌∷◌, [], false, drop, sym, ap, ◌∙◌, arith, get_or}
+use Rattle.std.specs.Prelude.{if◌then◌else◌, ◌==◌}
 use Rattle.std.proofs.lemmas.List.{append-nil}
-use Rattle.c_tree.specs.Print.{converted, printed_from, first_of_values, later_values}
+use Rattle.c_tree.specs.Print.{converted, printed_from, later_values}
 use Rattle.proc_machine.proofs.Prints.{first_dropped, later_dropped, sign_begins, byte_is, sign_is, value_is, next_shown}
 use Rattle.proc_machine.proofs.printing.push_printed.Goals as goal
 use Rattle.proc_machine.proofs.printing.push_printed.Goals.{then-not-after_percent+then-byte-eq37, then-not-after_percent+else-byte-eq37, else-not-after_percent+then-byte-eq37-2, else-not-after_percent+else-byte-eq37-2}

@@ -1,4 +1,4 @@
-use Rattle.std.proofs.Common.{◌≡◌, ◌≤◌, ◌+◌, ◌++◌, [], length, take, replicate, Some, IsTrue, sym, ap, ◌∙◌, arith}
+use Rattle.std.proofs.Common.{◌≡◌, ◌≤◌, ◌+◌, ◌++◌, [], length, take, replicate, Some, IsTrue, refl, sym, ap, ◌∙◌, arith}
 use Rattle.std.specs.Prelude.{slice_get, option_map}
 use Rattle.std.proofs.Math.Logic.{∥∥₁_map}
 use Rattle.stack_code.specs.Frame.{frame_of}
@@ -18,6 +18,8 @@ returns c =
     let words = ap (λ l. length l) c.requires.words in
     let fits : length code.globals + main.0.frame_words ≤ 65536 = omega (arith, size, words, c.if-len-size-gt-WORDS_LIMIT.false, c.len.ensures.same) in
     let opened = c.open.ensures ∙ ap (λ l. l ++ take f.frame_words ([] ++ replicate f.frame_words 0)) c.requires.words ∙ ap (λ n. code.globals ++ take n ([] ++ replicate n 0)) (sym size) in
-    let within : IsTrue (is_within code) = c.args.code.now.within in
-    (∥∥₁_map c.args.code.now.sound (λ s. holds_fresh code e c.requires c.open.new.self main.0 main.1 fits s within),
-      λ count me. main_called code e c.requires c.open.new.self main.0 main.1 fits count me opened)
+    let within : IsTrue (is_within code) = c.args.code.now.within in (
+      ∥∥₁_map c.args.code.now.sound (λ s. holds_fresh code e c.requires c.open.new.self main.0 main.1 fits s within),
+      λ count me. main_called code e c.requires c.open.new.self main.0 main.1 fits count me opened,
+      refl,
+    )

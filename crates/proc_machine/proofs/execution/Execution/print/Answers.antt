@@ -1,4 +1,4 @@
-use Rattle.std.proofs.Common.{◌≡◌, ◌<◌, ◌≤◌, ◌^◌, ℕ, List, [], get_or, length, take, reverse, subst, refl, sym, ap, ◌∙◌, arith, rules}
+use Rattle.std.proofs.Common.{◌≡◌, ◌<◌, ◌≤◌, ◌^◌, ℕ, List, [], get_or, length, take, reverse, subst, refl, sym, ap, ◌∙◌, arith}
 use Rattle.std.specs.Prelude.{unwrap_or, slice_index, slice_get}
 use Rattle.c_tree.specs.Print.{printed}
 use Rattle.stack_code.specs.Machine.{conversions}
@@ -13,10 +13,10 @@ printed_length-length-requires-clause-words c =
     let some : c.conversions.result ≤ length own = omega (arith, n, c.requires.some) in
     let words : (j : ℕ) → j < c.conversions.result → slice_index own j < 2 ^ 32 = λ j h. c.requires.words j (is_below j _ (omega (arith, h, n))) in
     λ k d _ lt.
-        let len = ap length c.last-values.ensures in
-        let small = taken_words own c.conversions.result some words k d (omega (arith, lt, len)) in
-        let P : List ℕ → Type 0 = λ l. get_or l k d < 2 ^ 32 in
-        subst P (sym c.last-values.ensures) small
+    let len = ap length c.last-values.ensures in
+    let small = taken_words own c.conversions.result some words k d (omega (arith, lt, len)) in
+    let P : List ℕ → Type 0 = λ l. get_or l k d < 2 ^ 32 in
+    subst P (sym c.last-values.ensures) small
 
 printed_bytes : (text values values2 text2 : List ℕ) → values ≡ values2 → text ≡ text2 → printed text values ≡ printed text2 values2
 printed_bytes text values values2 text2 h e = ap (printed text) h ∙ ap (λ t. printed t values2) e

@@ -4,7 +4,6 @@ use Rattle.std.proofs.lemmas.Bool.{leb-true}
 use Rattle.c_tree.specs.Print.{printed}
 use Rattle.stack_code.specs.Machine.{conversions}
 use Rattle.stack_code.specs.View.{code_of}
-use Rattle.proc_machine.specs.declared.execution.Execution.{Execution}
 use Rattle.proc_machine.specs.View.{given}
 use Rattle.proc_machine.specs.Ready.{bytes_of}
 use Rattle.proc_machine.proofs.Sending.{is_below, taken_words, print_makes}
@@ -17,13 +16,13 @@ push_printed-requires-clause-words c =
     let some : c.conversions-count.result ≤ length own = omega (arith, n, c.requires.ready.some) in
     let words : (j : ℕ) → j < c.conversions-count.result → slice_index own j < 2 ^ 32 = λ j h. c.requires.ready.words j (is_below j _ (omega (arith, h, n))) in
     λ k d _ lt.
-        let len = ap length c.last.ensures in
-        let small = taken_words own c.conversions-count.result some words k d (omega (arith, lt, len)) in
-        let P : List ℕ → Type 0 = λ l. get_or l k d < 2 ^ 32 in
-        subst P (sym c.last.ensures) small
+    let len = ap length c.last.ensures in
+    let small = taken_words own c.conversions-count.result some words k d (omega (arith, lt, len)) in
+    let P : List ℕ → Type 0 = λ l. get_or l k d < 2 ^ 32 in
+    subst P (sym c.last.ensures) small
 
-pub returns : goal.returns
-returns c =
+pub returns-clause-made : goal.returns-clause-made
+returns-clause-made c =
     let e = c.args.self.now in
     let own = e.calls.own in
     let code = code_of c.args.at.code.now in

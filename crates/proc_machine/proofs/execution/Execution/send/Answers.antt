@@ -1,4 +1,4 @@
-use Rattle.std.proofs.Common.{◌≡◌, refl, sym, ap, ◌∙◌, Bool, ℕ}
+use Rattle.std.proofs.Common.{refl, sym, ap, ◌∙◌}
 use Rattle.std.specs.Prelude.{nat_lt, ◌&&◌, ◌+◌, slice_index}
 use Rattle.proc_machine.proofs.Sending.{send_pauses, send_faults, word_bounds}
 use Rattle.proc_machine.proofs.execution.Execution.send.Goals as goal

@@ -1,4 +1,4 @@
-use Rattle.std.proofs.Common.{◌≡◌, ℕ, List, take, reverse, replicate, refl, sym, ap, ◌∙◌}
+use Rattle.std.proofs.Common.{replicate, refl, ap, ◌∙◌}
 use Rattle.c_tree.specs.Expr.{padded}
 use Rattle.stack_code.specs.View.{code_of}
 use Rattle.nm_base.specs.declared.letter.Letter.{Letter}

@@ -1,5 +1,4 @@
 use Rattle.std.proofs.Common.{◌≡◌, ◌++◌, ◌+◌, ◌∷◌, [], suc, take, replicate, sym, ap, ◌∙◌, arith, append_assoc}
-use Rattle.std.specs.Prelude.{slice_index}
 use Rattle.proc_machine.proofs.Upper.{next_word}
 use Rattle.proc_machine.proofs.words.Words.open.Goals as goal
 
