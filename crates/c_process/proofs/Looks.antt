@@ -4,19 +4,17 @@ use Rattle.std.specs.Prelude.{IsTrue, ◌==◌, pos}
 use Rattle.std.proofs.lemmas.Bool.{eqb-true, false≢true}
 use Rattle.nm_base.specs.declared.kind.Kind.{Kind}
 use Rattle.nm_base.specs.declared.kind.Kind.TheVariants as kind
+use Rattle.nm_base.specs.declared.kind.Kind.TheVariants.{Accepted}
+use Rattle.nm_base.specs.Channels.{has_channel}
 use Rattle.nm_base.specs.declared.letter.Letter.{Letter}
-use Rattle.nm_base.specs.declared.letter.ProcNo.{ProcNo}
-use Rattle.nm_base.specs.Scripts.{is_last}
 use Rattle.c_tree.specs.State.{Status, Able, Wants, Over}
 use Rattle.processes.specs.declared.proc.Look.{Look}
 use Rattle.processes.specs.declared.proc.Look.TheVariants as look
-use Rattle.processes.specs.Standing.{CanTake, letter_made}
-use Rattle.processes.specs.Standing as processes
+use Rattle.processes.specs.Standing.{CanTake, accepting}
 use Rattle.proc_machine.specs.declared.pause.Pause.{Pause}
 use Rattle.proc_machine.specs.declared.pause.Pause.TheVariants as pause
 use Rattle.proc_machine.specs.Pauses.{status_of}
 use Rattle.proc_machine.specs.Standing.{goes_by_itself}
-use Rattle.proc_machine.specs.Ahead.{CanAccept, accepting, letter_of_event}
 use Rattle.c_process.specs.Looks.{end_of, look_of, looks_at}
 
 pub able_advances : (l : Look) (p : Pause) → looks_at l p ≡ true → l ≡ look.Able → goes_by_itself p ≡ true
@@ -47,17 +45,22 @@ waiting_same set (pause.Fault cause) e = absurd (false≢true e)
 waiting_same set (pause.Receive other) e = ap pause.Receive (sym (eqb-true set other e))
 waiting_same set pause.Done e = absurd (false≢true e)
 
-pub takes_accepts : (l : Look) (p : Pause) (letter : Letter) → looks_at l p ≡ true → CanTake l letter → CanAccept p letter
+-- a letter that the process may take its machine may accept
+pub takes_accepts : (l : Look) (p : Pause) (letter : Letter) → looks_at l p ≡ true → CanTake l letter → (set : ℕ) × (p ≡ pause.Receive set) × (has_channel set letter.chan ≡ true)
 takes_accepts look.Able p letter e t = absurd t
 takes_accepts (look.Ended value) p letter e t = absurd t
 takes_accepts (look.Faulted cause) p letter e t = absurd t
-takes_accepts (look.Waiting set) p letter e t = subst (λ q. CanAccept q letter) (sym (waiting_same set p e)) t
+takes_accepts (look.Waiting set) p letter e t = (set, waiting_same set p e, t)
 
-pub accepts_same : (l : Look) (p : Pause) (letter : Letter) → looks_at l p ≡ true → CanTake l letter → accepting p letter ≡ processes.accepting l letter
-accepts_same look.Able p letter e t = absurd t
-accepts_same (look.Ended value) p letter e t = absurd t
-accepts_same (look.Faulted cause) p letter e t = absurd t
-accepts_same (look.Waiting set) p letter e t = ap (λ q. accepting q letter) (waiting_same set p e)
+-- the event of accepting it
+pub accepts_same : (l : Look) (p : Pause) (letter : Letter) (set : ℕ) → looks_at l p ≡ true → CanTake l letter → p ≡ pause.Receive set → Accepted set letter.id ≡ accepting l letter
+accepts_same look.Able p letter set e t r = absurd t
+accepts_same (look.Ended value) p letter set e t r = absurd t
+accepts_same (look.Faulted cause) p letter set e t r = absurd t
+accepts_same (look.Waiting other) p letter set e t r =
+    let both : pause.Receive other ≡ pause.Receive set = sym (waiting_same other p e) ∙ r in
+    let same : set ≡ other = cc in
+    ap (λ n. Accepted n letter.id) same
 
 same_set : (n : ℕ) → (n == n) ≡ true
 same_set n = grind arith
@@ -82,11 +85,3 @@ looks_again l p k e = ap (λ l. looks_at l p) e ∙ by p
     by (pause.Fault cause) = refl
     by (pause.Receive set) = same_set set
     by pause.Done = end_looks k
-
-pub letters_same : (me : ProcNo) (k : Kind) → letter_of_event me k ≡ letter_made me k
-letters_same me (kind.Line line) = refl
-letters_same me (kind.Sent number dest chan len words) = refl
-letters_same me (kind.Accepted set id) = refl
-letters_same me (kind.Printed bytes) = refl
-letters_same me (kind.Ended value) = refl
-letters_same me (kind.Faulted cause) = refl

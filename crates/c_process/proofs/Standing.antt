@@ -11,7 +11,7 @@ use Rattle.processes.specs.declared.proc.Look.{Look}
 use Rattle.proc_machine.specs.declared.machine.Machine.{Machine}
 use Rattle.proc_machine.specs.declared.pause.Pause.{Pause}
 use Rattle.proc_machine.specs.Pauses.{status_of}
-use Rattle.proc_machine.specs.Machines.{Setting, Expects, StandsFor, IsSame, setting_of, next_of, state_of}
+use Rattle.proc_machine.specs.Machines.{Setting, StandsFor, IsSame, setting_of, next_of, state_of}
 use Rattle.proc_machine.specs.Standing.{goes_by_itself, shown_state}
 use Rattle.proc_machine.specs.declared.execution.Execution.{Execution}
 use Rattle.c_process.specs.Looks.{look_of}
@@ -24,7 +24,6 @@ use Rattle.c_process.proofs.Looks.{advance_able}
 pub record Onward (old new : Machine) (look' : Look) (kind : Kind) (inputs later : List Message) (events : List Kind) : Type 0 where
   pub setting : setting_of new ≡ setting_of old
   pub stands : StandsFor new later (kind ∷ events)
-  pub stops : Expects (setting_of new) later (kind ∷ events) (next_of new) (state_of new (kind ∷ events))
   pub looks : look' ≡ look_of (status_of (next_of new)) (kind ∷ events)
 
 onward : (old new : Machine) (look look' : Look) (kind : Kind) (inputs later : List Message) (k : ℕ) (a : IsAfter old look inputs k) → Onward old new look' kind inputs later a.events → IsAfter new look' later (k + 1)
@@ -32,7 +31,6 @@ onward old new look look' kind inputs later k a o = record {
   events = kind ∷ a.events;
   count = omega (arith, a.count);
   stands = o.stands;
-  stops = o.stops;
   looks = o.looks;
 }
 
@@ -71,8 +69,8 @@ makes old new look look' kind inputs k s able f o =
 
 -- ---- the same machine
 
-pub stays : (m m' : Machine) (look : Look) (s : Script) (letters : List Message) (k : ℕ) → IsSame m m' → ((inputs : List Message) (events : List Kind) → StandsFor m inputs events → StandsFor m' inputs events) → ((inputs : List Message) (events : List Kind) → StandsFor m' inputs events → Expects (setting_of m') inputs events (next_of m') (state_of m' events)) → Follows m look s letters k → Follows m' look s letters k
-stays m m' look s letters k same on stops f = record {
+pub stays : (m m' : Machine) (look : Look) (s : Script) (letters : List Message) (k : ℕ) → IsSame m m' → ((inputs : List Message) (events : List Kind) → StandsFor m inputs events → StandsFor m' inputs events) → Follows m look s letters k → Follows m' look s letters k
+stays m m' look s letters k same on f = record {
   program = f.program;
   script = f.script ∙ ap (λ (set : Setting). script_of f.program set.count set.me.no) (sym same.setting);
   code = subst (λ (set : Setting). IsCodeOf f.program set.code) (sym same.setting) f.code;
@@ -80,17 +78,16 @@ stays m m' look s letters k same on stops f = record {
     events = f.after.events;
     count = f.after.count;
     stands = on letters f.after.events f.after.stands;
-    stops = stops letters f.after.events (on letters f.after.events f.after.stands);
     looks = f.after.looks ∙ ap (λ p. look_of (status_of p) f.after.events) (sym same.next);
   };
 }
 
 -- ---- at the start
 
-pub begins : (m : Machine) (look : Look) (p : Program) → StandsFor m [] [] → Expects (setting_of m) [] [] (next_of m) (state_of m []) → look ≡ look_of (status_of (next_of m)) [] → IsCodeOf p (setting_of m).code → Follows m look (script_of p (setting_of m).count (setting_of m).me.no) [] 0
-begins m look p stands stops looks is = record {
+pub begins : (m : Machine) (look : Look) (p : Program) → StandsFor m [] [] → look ≡ look_of (status_of (next_of m)) [] → IsCodeOf p (setting_of m).code → Follows m look (script_of p (setting_of m).count (setting_of m).me.no) [] 0
+begins m look p stands looks is = record {
   program = p;
   script = refl;
   code = is;
-  after = record { events = []; count = refl; stands = stands; stops = stops; looks = looks };
+  after = record { events = []; count = refl; stands = stands; looks = looks };
 }

@@ -8,7 +8,7 @@ use Rattle.nm_base.specs.Scripts.{Script, IsLawful}
 use Rattle.nm_base.specs.Scripts as scripts
 use Rattle.c_tree.specs.State.{State, Status, Able, Wants, Over, Outcome, Done, Stopped, Run, then_on}
 use Rattle.c_tree.specs.declared.program.Program.{Program}
-use Rattle.c_tree.specs.Play.{Setting, Played, played_of, setting_of, next_by, next, run_of, play}
+use Rattle.c_tree.specs.Play.{Setting, Played, played_of, next_by, next, run_of, play}
 use Rattle.c_tree.proofs.Histories.{able_goes_on, scripts_are_lawful}
 use Rattle.stack_code.specs.Code.{Code}
 use Rattle.stack_code.specs.Machine.{Control, step, exec, started_by, first_data, run_code}
@@ -18,6 +18,7 @@ use Rattle.processes.specs.Standing.{Shows}
 use Rattle.proc_machine.specs.Pauses.{status_of}
 use Rattle.proc_machine.specs.declared.machine.Machine.{Machine}
 use Rattle.proc_machine.specs.Machines.{setting_of, next_of, state_of}
+use Rattle.proc_machine.proofs.Pending.{stops_of}
 use Rattle.c_process.specs.Looks.{end_of, look_of}
 use Rattle.c_process.specs.Standing.{IsCodeOf, IsAfter, Follows, process_of}
 
@@ -108,8 +109,9 @@ module _ (set : Setting) (code : Code) (stands : StandsFor set code) where
 pub plays_after : (p : Program) (m : Machine) (look : Look) (letters : List Message) (k : ℕ) (is : IsCodeOf p (setting_of m).code) (a : IsAfter m look letters k) → run_of (process_of p (setting_of m)) letters k ≡ Stopped (status_of (next_of m)) (state_of m a.events)
 plays_after p m look letters k is a =
     let set = setting_of m in
+    let stops = stops_of m letters a.events a.stands in
     ap (run_of (process_of p set) letters) (sym a.count)
-    ∙ plays (process_of p set) set.code (is.stands set.count set.me.no) letters (length a.events) (status_of (next_of m)) (state_of m a.events) (a.stops.steps, a.stops.stops)
+    ∙ plays (process_of p set) set.code (is.stands set.count set.me.no) letters (length a.events) (status_of (next_of m)) (state_of m a.events) (stops.steps, stops.stops)
 
 pub follows_lawful : (m : Machine) (look : Look) (s : Script) (letters : List Message) (k : ℕ) → Follows m look s letters k → IsLawful s
 follows_lawful m look s letters k f =

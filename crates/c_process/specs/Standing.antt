@@ -10,7 +10,7 @@ use Rattle.stack_code.specs.Code.{Code}
 use Rattle.c_compile.specs.Correct.{StandsFor}
 use Rattle.processes.specs.declared.proc.Look.{Look}
 use Rattle.proc_machine.specs.declared.machine.Machine.{Machine}
-use Rattle.proc_machine.specs.Machines.{Setting, Expects, setting_of, next_of, state_of}
+use Rattle.proc_machine.specs.Machines.{Setting, setting_of, next_of}
 use Rattle.proc_machine.specs.Machines as machine
 use Rattle.proc_machine.specs.Pauses.{status_of}
 use Rattle.c_process.specs.Looks.{look_of, line_of, main_line}
@@ -30,8 +30,6 @@ pub record IsAfter (m : Machine) (look : Look) (letters : List Message) (k : ℕ
   pub events : List Kind
   pub count : length events ≡ k
   pub stands : machine.StandsFor m letters events
-  -- with no more events the run stops in the machine's state
-  pub stops : Expects (setting_of m) letters events (next_of m) (state_of m events)
   pub looks : look ≡ look_of (status_of (next_of m)) events
 
 -- The machine is at this point of the script of every program whose code it runs.

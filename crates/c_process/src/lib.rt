@@ -4,8 +4,6 @@
 mod law;
 mod process;
 mod script;
-#[cfg(test)]
-mod tests;
 
 pub use law::{law_of_compiled_code, law_of_looks};
 pub use process::CProc;

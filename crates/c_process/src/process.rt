@@ -9,10 +9,11 @@ ghost use Rattle.c_tree.specs.Play.{script_of};
 ghost use Rattle.stack_code.specs.View.{code_of};
 ghost use Rattle.proc_machine.specs.Machines.{setting_of, next_of, letters_sent};
 ghost use Rattle.proc_machine.specs.Pauses.{status_of};
+ghost use Rattle.processes.specs.Standing.{letter_made};
 ghost use Rattle.c_process.specs.Looks.{end_of, look_of, looks_at};
-ghost use Rattle.c_process.specs.Standing.{IsCodeOf, played, line_after};
+ghost use Rattle.c_process.specs.Standing.{IsCodeOf, played};
 
-use nm_base::{Kind, ProcNo, WantOfMemory};
+use nm_base::{Kind, Letter, LetterId, ProcNo, Stamp, WantOfMemory};
 use proc_machine::{Machine, Pause};
 use processes::{Look, Proc};
 use stack_code::Code;
@@ -59,20 +60,6 @@ impl<'c> CProc<'c> {
     {
         self.machine.output()
     }
-
-    /// The line at which it is: if its next event is a Line, that event's line, otherwise the line of
-    /// the last Line event of the innermost frame; without a frame the line of `main`'s name.
-    pub fn line(&self) -> u32
-        ensures { (p : Program) (s : Script) (letters : List Message) (k : ℕ) → IsCodeOf p (setting_of self.now.machine).code → ⟦<CProc<'c> as Proc>⟧.stands_for self.now s letters k → result ≡ line_after p self.now.machine letters k }
-    {
-        if let Pause::Line { line } = self.machine.pending() {
-            return line;
-        }
-        if self.machine.frame_count() == 0 {
-            return self.code.main_line();
-        }
-        self.machine.frame(0).line
-    }
 }
 
 /// How a process ended whose last event was of this kind.
@@ -95,4 +82,29 @@ pub(crate) fn look_at(pause: Pause, end: Look) -> Look
         Pause::Done => end,
         _ => Look::Able,
     }
+}
+
+/// The letter of an event of this process, if it is a send. It is not posted yet.
+pub(crate) fn letter_made(me: ProcNo, kind: Kind) -> Option<Letter>
+    ensures { result ≡ letter_made me kind }
+{
+    let Kind::Sent {
+        number,
+        dest,
+        chan,
+        len,
+        words,
+    } = kind
+    else {
+        return None;
+    };
+    Some(Letter {
+        id: LetterId { sender: me, number },
+        dest,
+        chan,
+        len,
+        words,
+        posted: 0,
+        stamp: Stamp { parts: [0; 32] },
+    })
 }

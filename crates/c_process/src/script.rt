@@ -1,6 +1,6 @@
 //! A process that runs code, as a process of a run.
 
-use crate::process::{CProc, end_with, look_at};
+use crate::process::{CProc, end_with, letter_made, look_at};
 use nm_base::{Kind, Letter, ProcNo, WantOfMemory};
 use processes::{Look, Proc};
 use std::alloc::Global;
@@ -32,10 +32,10 @@ impl<'c> Proc for CProc<'c> {
 
     fn step(&mut self, alloc: Global) -> Result<(Kind, Option<Letter>), WantOfMemory> {
         self.machine.reserve_output(alloc)?;
-        let (kind, letter) = self.machine.advance();
+        let (kind, _) = self.machine.advance();
         self.count += 1;
         self.look = look_at(self.machine.pending(), end_with(kind));
-        Ok((kind, letter))
+        Ok((kind, letter_made(self.me, kind)))
     }
 
     fn give(&mut self, letter: Letter) -> Kind {

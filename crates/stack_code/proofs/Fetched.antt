@@ -1,12 +1,12 @@
 -- What is read of the code of a function.
-use Rattle.std.proofs.Common.{◌≡◌, ℕ, zero, suc, ◌<◌, ◌≤◌, List, [], ◌∷◌, length, map, get_or, Some, refl, ap, ◌∙◌, arith}
+use Rattle.std.proofs.Common.{◌≡◌, ℕ, zero, suc, ◌<◌, ◌≤◌, List, [], ◌∷◌, length, map, get_or, Option, Some, None, refl, sym, ap, ◌∙◌, subst, arith}
 use Rattle.std.specs.Prelude.{slice_get, IsTrue, option_map}
 use Rattle.std.specs.List.{list_all}
 use Rattle.stack_code.specs.declared.instr.Instr.{Instr}
 use Rattle.stack_code.specs.declared.code.Variable.{Variable}
 use Rattle.stack_code.specs.declared.code.CodeFunction.{CodeFunction}
-use Rattle.stack_code.specs.Code.{Placed, Code, steps_by, steps_of}
-use Rattle.stack_code.specs.Blocks.{table_of, placed_in, function_of, is_kept, view_of}
+use Rattle.stack_code.specs.Code.{Placed, FunctionCode, Code, steps_by, steps_of}
+use Rattle.stack_code.specs.Blocks.{entered_in, table_of, placed_in, function_of, is_kept, view_of}
 use Rattle.stack_code.proofs.Tables.{Table, placed_length}
 use Rattle.stack_code.proofs.Founds.{long_is, view_at, kept_at, got}
 

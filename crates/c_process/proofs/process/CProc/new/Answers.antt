@@ -1,0 +1,19 @@
+use Rattle.std.proofs.Common.{◌≡◌, [], refl, sym, ap, ◌∙◌, subst}
+use Rattle.nm_base.specs.Scripts.{Script}
+use Rattle.c_tree.specs.Play.{script_of}
+use Rattle.proc_machine.specs.Machines.{Setting}
+use Rattle.proc_machine.specs.Pauses.{status_of}
+use Rattle.c_process.specs.Looks.{look_of}
+use Rattle.c_process.specs.Standing.{IsCodeOf, Follows}
+use Rattle.c_process.proofs.Standing.{begins}
+use Rattle.c_process.proofs.process.CProc.new.Goals as goal
+
+pub returns-clause-stands : goal.returns-clause-stands
+returns-clause-stands c = λ p is.
+    let m = c.in_ok-machine.machine in
+    let ok = c.in_ok-machine.ensures in
+    let looks = c.look_at-look.ensures.looks [] refl ∙ ap (λ q. look_of (status_of q) []) c.pending.ensures.same in
+    let code = subst (λ (set : Setting). IsCodeOf p set.code) (sym ok.setting) is in
+    let start = begins m c.look_at-look.result p ok.stands looks code in
+    let script = ap (λ (set : Setting). script_of p set.count set.me.no) ok.setting in
+    (subst (λ (s : Script). Follows m c.look_at-look.result s [] 0) script start, refl)
