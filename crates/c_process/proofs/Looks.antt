@@ -85,3 +85,16 @@ looks_again l p k e = ap (λ l. looks_at l p) e ∙ by p
     by (pause.Fault cause) = refl
     by (pause.Receive set) = same_set set
     by pause.Done = end_looks k
+
+-- what is shown before the first event
+pub begins_seen : (l : Look) (p : Pause) → l ≡ look_of (status_of p) [] → looks_at l p ≡ true
+begins_seen l p e = ap (λ l. looks_at l p) e ∙ by p
+  where
+    by : (p : Pause) → looks_at (look_of (status_of p) []) p ≡ true
+    by (pause.Line line) = refl
+    by pause.Send = refl
+    by pause.Print = refl
+    by (pause.End value) = refl
+    by (pause.Fault cause) = refl
+    by (pause.Receive set) = same_set set
+    by pause.Done = refl

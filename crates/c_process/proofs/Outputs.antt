@@ -23,7 +23,7 @@ shown_output code count me e false events = refl
 
 pub output_is : (p : Program) (m : Machine) (look : Look) (letters : List Message) (k : ℕ) → IsCodeOf p (setting_of m).code → IsAfter m look letters k → (played p m letters k).state.output ≡ (state_of m []).output
 output_is p m look letters k is a =
-    ap (λ o. (played_of o).state.output) (plays_after p m look letters k is a) ∙ shown_output _ _ _ m.execution m.begun a.events
+    ap (λ o. (played_of o).state.output) (plays_after p m look letters k is a) ∙ shown_output (setting_of m).code (setting_of m).count (setting_of m).me.no m.execution m.begun a.events
 
 pub looks_played : LooksArePlayed
 looks_played p m look s letters k is f =

@@ -47,7 +47,7 @@ shown_made code count me e true events = refl
 shown_made code count me e false events = refl
 
 pub state_made : (m : Machine) (events : List Kind) → (state_of m events).events ≡ events
-state_made m events = shown_made _ _ _ m.execution m.begun events
+state_made m events = shown_made (setting_of m).code (setting_of m).count (setting_of m).me.no m.execution m.begun events
 
 abbrev stopped : Status → State → Outcome ℕ
 stopped status s = Stopped status s

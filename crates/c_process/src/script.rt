@@ -46,9 +46,10 @@ impl<'c> Proc for CProc<'c> {
     }
 
     fn copy(&self, alloc: Global) -> Result<Self, WantOfMemory> {
+        let machine = self.machine.copy(alloc)?;
         Ok(CProc {
             code: self.code,
-            machine: self.machine.copy(alloc)?,
+            machine,
             me: self.me,
             count: self.count,
             look: self.look,

@@ -1,12 +1,27 @@
-use Rattle.std.proofs.Common.{◌≡◌, [], refl, sym, ap, ◌∙◌, subst}
+use Rattle.std.proofs.Common.{◌≡◌, [], refl, sym, ap, ◌∙◌, subst, arith}
 use Rattle.nm_base.specs.Scripts.{Script}
 use Rattle.c_tree.specs.Play.{script_of}
-use Rattle.proc_machine.specs.Machines.{Setting}
+use Rattle.proc_machine.specs.Machines.{Setting, next_of}
 use Rattle.proc_machine.specs.Pauses.{status_of}
 use Rattle.c_process.specs.Looks.{look_of}
 use Rattle.c_process.specs.Standing.{IsCodeOf, Follows}
+use Rattle.c_process.proofs.Looks.{begins_seen}
 use Rattle.c_process.proofs.Standing.{begins}
 use Rattle.c_process.proofs.process.CProc.new.Goals as goal
+
+pub invariant_of-result-clause-runs : goal.invariant_of-result-clause-runs
+invariant_of-result-clause-runs c = ap (λ (set : Setting). set.code) c.in_ok-machine.ensures.setting
+
+pub invariant_of-result-clause-named : goal.invariant_of-result-clause-named
+invariant_of-result-clause-named c = ap (λ (set : Setting). set.me) c.in_ok-machine.ensures.setting
+
+pub invariant_of-result-clause-few : goal.invariant_of-result-clause-few
+invariant_of-result-clause-few c = omega (arith, c.in_ok-machine.ensures.sent)
+
+pub invariant_of-result-clause-seen : goal.invariant_of-result-clause-seen
+invariant_of-result-clause-seen c =
+    begins_seen c.look_at-look.result (next_of c.in_ok-machine.machine)
+    (c.look_at-look.ensures.looks [] refl ∙ ap (λ q. look_of (status_of q) []) c.pending.ensures.same)
 
 pub returns-clause-stands : goal.returns-clause-stands
 returns-clause-stands c = λ p is.

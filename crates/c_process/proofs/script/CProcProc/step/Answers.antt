@@ -22,6 +22,9 @@ pub advance-kind-requires-clause-moves : goal.advance-kind-requires-clause-moves
 advance-kind-requires-clause-moves c =
     ap goes_by_itself c.reserve_output.ensures.same.next ∙ able_advances c.args.self.now.look (next_of c.args.self.now.machine) c.args.self.now.seen c.requires.able
 
+pub advance-kind-requires-clause-few : goal.advance-kind-requires-clause-few
+advance-kind-requires-clause-few c = omega (arith, c.reserve_output.ensures.same.sent, c.args.self.now.few, c.requires.room)
+
 pub invariant_of-self-2-clause-runs : goal.invariant_of-self-2-clause-runs
 invariant_of-self-2-clause-runs c =
     ap (λ (set : Setting). set.code) (c.advance-kind.ensures.made.setting ∙ c.reserve_output.ensures.same.setting) ∙ c.args.self.now.runs
