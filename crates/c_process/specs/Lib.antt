@@ -2,4 +2,3 @@ pub mod Looks
 pub mod Standing
 pub mod Laws
 pub mod Compiled
-pub mod Examples
