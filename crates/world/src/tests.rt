@@ -46,11 +46,16 @@ fn letter_made(me: ProcNo, kind: Kind) -> Option<Letter>
 }
 
 impl Proc for Actor {
-    ghost use Rattle.std.specs.Prelude.{◌≡◌, slice_get};
+    ghost use Rattle.std.specs.Prelude.{◌≡◌, List, slice_get};
+    ghost use Rattle.nm_base.specs.declared.kind.Kind.{Kind};
     ghost use Rattle.processes.specs.Listed.{listed, look_of};
     ghost use Rattle.processes.specs.ListedFacts.{lawful_at, listed_shows};
 
     ghost stands_for = { λ x s letters k. (s ≡ listed x.kinds.items) × (k ≡ x.events) };
+
+    ghost Origin = { List Kind };
+
+    ghost origin_of = { λ x. x.kinds.items };
 
     ghost name_of = { λ x. record { no = 0 } };
 
