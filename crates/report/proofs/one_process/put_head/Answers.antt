@@ -1,7 +1,7 @@
 use Rattle.std.proofs.Common.{◌++◌}
 use Rattle.report.specs.Texts as texts
 use Rattle.report.proofs.Pieces.{still_failed, failed_on, both}
-use Rattle.report.proofs.blocks.put_head.Goals as goal
+use Rattle.report.proofs.one_process.put_head.Goals as goal
 
 pub returns-in_err-put_process : goal.returns-in_err-put_process
 returns-in_err-put_process g c =

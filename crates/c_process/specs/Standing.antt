@@ -1,0 +1,14 @@
+-- What a process that runs code stands for.
+use Rattle.std.specs.Prelude.{◌≡◌, ℕ, option_map, slice_get, unwrap_or}
+use Rattle.c_tree.specs.declared.program.Program.{Program}
+use Rattle.stack_code.specs.Code.{Code}
+
+abbrev pub main_line_of : Code → ℕ
+main_line_of code = unwrap_or (option_map (λ f. f.line) (slice_get code.functions code.main)) 0
+
+abbrev pub main_line : Program → ℕ
+main_line p = unwrap_or (option_map (λ f. f.line) (slice_get p.functions p.main)) 0
+
+-- the code stands for every process of the program (here a stub)
+pub record IsCodeOf (p : Program) (code : Code) : Type 0 where
+  pub main : main_line_of code ≡ main_line p
