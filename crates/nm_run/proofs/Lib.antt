@@ -1,2 +1,4 @@
 pub mod TurnLaws
 pub mod ProgramLaws
+pub mod StartLaws
+pub mod ScheduleLaws

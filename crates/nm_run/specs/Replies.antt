@@ -1,0 +1,66 @@
+-- Replies: what a call answers, prints and leaves. Forms for saying which replies are allowed.
+use Rattle.std.specs.Prelude.{◌≡◌, ◌⊎◌, ℕ, length, codes, nat_le, MatchBool, List, Option, Some, None, MatchOption, ⊤}
+use Rattle.std.specs.FinMap.{get}
+use Rattle.std.specs.Io.KnownBytes.{Appends}
+use Rattle.nm_outside.specs.Files.{Files, AppendsPart}
+use Rattle.nm_run.specs.declared.status.Status.{Status}
+use Rattle.nm_run.specs.declared.status.Status.TheVariants.{Absent, ReadFault, WriteFault, TooLong, WantOfMemory}
+use Rattle.report.specs.Texts.{name_line}
+
+pub record Reply : Type 0 where
+  pub status : Status
+  pub printed : List ℕ
+  pub files : Files
+
+-- This is answered and printed, and the files are as before.
+abbrev pub Says : Files → Status → List ℕ → Reply → Type 0
+Says files status printed reply = reply ≡ record { status = status; printed = printed; files = files }
+
+abbrev pub absent_line : List ℕ → List ℕ
+absent_line name = name_line (codes "absent: ") name
+
+abbrev pub read_fault_line : List ℕ → List ℕ
+read_fault_line name = name_line (codes "read fault: ") name
+
+abbrev pub too_long_line : List ℕ → List ℕ
+too_long_line name = name_line (codes "too long: ") name
+
+-- A file of at most so many bytes is needed: it is absent, or it passes the limit, or its bytes say what follows.
+abbrev pub Fetching : Files → List ℕ → ℕ → (List ℕ → Reply → Type 0) → Reply → Type 0
+Fetching files name limit then reply =
+    MatchOption (get files name) (Says files Absent (absent_line name) reply)
+    (λ bytes. MatchBool (nat_le (length bytes) limit) (then bytes reply) (Says files TooLong (too_long_line name) reply))
+
+-- A text is read: it reads as some value, which says what follows, or as none.
+abbrev pub Reading : {X : Type 0} → (X → Type 0) → (Reply → Type 0) → (X → Reply → Type 0) → Reply → Type 0
+Reading {X} reads otherwise then reply = ((x : X) × reads x × then x reply) ⊎ (((x : X) → reads x → ⊥) × otherwise reply)
+
+-- A call gave a reply.
+pub record Gave (reply : Reply) (files : Option Files) (before after : Option (List ℕ)) (status : Status) : Type 0 where
+  pub answered : status ≡ reply.status
+  pub printed : Appends before after reply.printed
+  pub left : files ≡ Some reply.files
+
+-- The outside failed, or memory did, and that was answered in the place of what is defined.
+abbrev pub FellShort : Status → Type 0
+FellShort status = (status ≡ ReadFault) ⊎ (status ≡ WriteFault) ⊎ (status ≡ WantOfMemory)
+
+-- Where the files are told, a call gave a reply that is allowed for them, or fell short of one.
+abbrev pub Answers : (Files → Reply → Type 0) → Option Files → Option Files → Option (List ℕ) → Option (List ℕ) → Status → Type 0
+Answers allowed None files before after status = ⊤
+Answers allowed (Some held) files before after status =
+    FellShort status ⊎ ((reply : Reply) × allowed held reply × Gave reply files before after status)
+
+-- What may be printed: the text of a reply that is allowed, or the line of a read fault.
+abbrev pub MayPrint : (Files → Reply → Type 0) → (List ℕ → Type 0) → Files → List ℕ → Type 0
+MayPrint allowed fetches held text =
+    ((reply : Reply) × allowed held reply × (text ≡ reply.printed)) ⊎ ((name : List ℕ) × fetches name × (text ≡ read_fault_line name))
+
+-- Where the files are told, a part of what may be printed was given, from its front.
+abbrev pub PrintsPart : (Files → Reply → Type 0) → (List ℕ → Type 0) → Option Files → Option (List ℕ) → Option (List ℕ) → Type 0
+PrintsPart allowed fetches None before after = ⊤
+PrintsPart allowed fetches (Some held) before after = (text : List ℕ) × MayPrint allowed fetches held text × AppendsPart before after text
+
+-- The line of a read fault was given, and nothing else.
+abbrev pub PrintsFault : (List ℕ → Type 0) → Option (List ℕ) → Option (List ℕ) → Type 0
+PrintsFault fetches before after = (name : List ℕ) × fetches name × Appends before after (read_fault_line name)
