@@ -25,8 +25,13 @@ pub struct DiskCabinet<'a, R: Files> {
 }
 
 impl<'a, R: Files> DiskCabinet<'a, R> {
-    /// Over the files that the runtime opens.
-    pub fn new(rt: &'a R) -> DiskCabinet<'a, R> {
+    /// Over the files that the runtime opens. No file is open, and nothing failed yet.
+    pub fn new(rt: &'a R) -> DiskCabinet<'a, R>
+        ensures closed { ⟦<DiskCabinet<'a, R> as Cabinet>⟧.is_open result ≡ false }
+        ensures read_faults { ⟦<DiskCabinet<'a, R> as Cabinet>⟧.read_faults result ≡ 0 }
+        ensures write_faults { ⟦<DiskCabinet<'a, R> as Cabinet>⟧.write_faults result ≡ 0 }
+        ensures absents { ⟦<DiskCabinet<'a, R> as Cabinet>⟧.absents result ≡ 0 }
+    {
         DiskCabinet {
             rt,
             open: None,

@@ -3,10 +3,12 @@
 //! letters that it accepted and of the number of its events.
 #![tactic(auto)]
 
+mod listed;
 mod proc;
 mod states;
 #[cfg(test)]
 mod tests;
 
+pub use listed::Listed;
 pub use proc::{Look, Proc};
 pub use states::{Able, Over, Seat, Stepped, Waiting};

@@ -28,6 +28,11 @@ pub trait Proc: Sized + Drop {
 
     ghost stands_for: { Self → Script → List Message → ℕ → Type 0 };
 
+    // What it is made from, as the code that it runs: no event changes it.
+    ghost Origin: { Type 0 };
+
+    ghost origin_of: { Self → Origin };
+
     ghost name_of: { Self → ProcNo };
 
     ghost count_of: { Self → ℕ };
@@ -57,7 +62,8 @@ pub trait Proc: Sized + Drop {
         ensures refused { OnErr result (Stays (stands_for self.old) (stands_for self.new)) }
         ensures refused_look { OnErr result (look_of self.new ≡ look_of self.old) }
         ensures refused_count { OnErr result (count_of self.new ≡ count_of self.old) }
-        ensures name { name_of self.new ≡ name_of self.old };
+        ensures name { name_of self.new ≡ name_of self.old }
+        ensures origin { origin_of self.new ≡ origin_of self.old };
 
     /// Accepts a letter on a channel of the set that it waits with, and gives this event.
     fn give(&mut self, letter: Letter) -> Kind
@@ -66,14 +72,16 @@ pub trait Proc: Sized + Drop {
         ensures next { Takes (stands_for self.old) (stands_for self.new) (message_of letter) }
         ensures kind { result ≡ accepting (look_of self.old) letter }
         ensures counted { count_of self.new ≡ count_of self.old + 1 }
-        ensures name { name_of self.new ≡ name_of self.old };
+        ensures name { name_of self.new ≡ name_of self.old }
+        ensures origin { origin_of self.new ≡ origin_of self.old };
 
     /// A process that stands for the same.
     fn copy(&self, alloc: Global) -> Result<Self, WantOfMemory>
         ensures same { IfOk result (λ p. Stays (stands_for self.now) (stands_for p)) }
         ensures look { IfOk result (λ p. look_of p ≡ look_of self.now) }
         ensures count { IfOk result (λ p. count_of p ≡ count_of self.now) }
-        ensures name { IfOk result (λ p. name_of p ≡ name_of self.now) };
+        ensures name { IfOk result (λ p. name_of p ≡ name_of self.now) }
+        ensures origin { IfOk result (λ p. origin_of p ≡ origin_of self.now) };
 
     ghost lawful: { (x : Self) (s : Script) (letters : List Message) (k : ℕ) → stands_for x s letters k → IsLawful s };
 

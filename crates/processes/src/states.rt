@@ -114,9 +114,11 @@ impl<P: Proc> Able<P> {
         ensures letter { IfMoved result (λ p kind letter. letter ≡ letter_made (P.name_of self) kind) }
         ensures counted { IfMoved result (λ p kind letter. P.count_of p ≡ P.count_of self + 1) }
         ensures name { IfMoved result (λ p kind letter. P.name_of p ≡ P.name_of self) }
+        ensures origin { IfMoved result (λ p kind letter. P.origin_of p ≡ P.origin_of self) }
         ensures refused { IfNoMemory result (λ p. Stays (P.stands_for self) (P.stands_for p)) }
         ensures refused_count { IfNoMemory result (λ p. P.count_of p ≡ P.count_of self) }
         ensures refused_name { IfNoMemory result (λ p. P.name_of p ≡ P.name_of self) }
+        ensures refused_origin { IfNoMemory result (λ p. P.origin_of p ≡ P.origin_of self) }
         ensures refused_look { IfNoMemory result (λ p. P.look_of p ≡ P.look_of self) }
     {
         let Able { mut process } = self;
@@ -150,6 +152,7 @@ impl<P: Proc> Waiting<P> {
         ensures kind { result.1 ≡ accepting (P.look_of self) letter }
         ensures counted { P.count_of (process_in result.0) ≡ P.count_of self + 1 }
         ensures name { P.name_of (process_in result.0) ≡ P.name_of self }
+        ensures origin { P.origin_of (process_in result.0) ≡ P.origin_of self }
     {
         let Waiting { mut process } = self;
         let kind = process.give(letter);

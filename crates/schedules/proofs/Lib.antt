@@ -1,3 +1,4 @@
+pub mod BoundFacts
 pub mod GeneratorFacts
 pub mod TextFacts
 mod Rows

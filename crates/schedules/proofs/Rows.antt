@@ -1,5 +1,5 @@
 -- Worked texts: the definitions, computed.
-use Rattle.std.proofs.Common.{◌≡◌, ℕ, List, [], ◌∷◌, Ok, Err, refl}
+use Rattle.std.proofs.Common.{◌≡◌, ℕ, [], ◌∷◌, Ok, Err, refl}
 use Rattle.std.specs.Prelude.{codes}
 use Rattle.schedules.specs.declared.reader.Entry.{Entry}
 use Rattle.schedules.specs.declared.reader.ScheduleFault.TheVariants.{BadWord, NoProcess, TooMany}

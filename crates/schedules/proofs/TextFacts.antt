@@ -1,21 +1,80 @@
 -- Words of a text, and what they spell.
-use Rattle.std.proofs.Common.{◌≡◌, ℕ, zero, suc, ◌+◌, ◌-◌, ◌*◌, ◌^◌, ◌<◌, ◌≤◌, Bool, true, false, cond, List, [], ◌∷◌, ◌++◌, length, take, drop, get_or, replicate, Option, Some, None, Result, Ok, Err, refl, sym, ap, ◌∙◌, subst, inl, inr, arith, append_assoc, add-one}
-use Rattle.std.specs.Prelude.{position, nat_lt, nat_le, not, ◌&&◌, ◌==◌}
-use Rattle.std.specs.List.{position_or_len, prefix_len}
-use Rattle.std.proofs.lemmas.Bool.{cases_Bool, false≢true, ltb-true, leb-true, lt-ltb, le-leb, ltb-false}
+use Rattle.std.proofs.Common.{
+  ◌≡◌,
+  ℕ,
+  zero,
+  suc,
+  ◌+◌,
+  ◌-◌,
+  ◌*◌,
+  ◌^◌,
+  ◌<◌,
+  ◌≤◌,
+  Bool,
+  true,
+  false,
+  cond,
+  List,
+  [],
+  ◌∷◌,
+  ◌++◌,
+  length,
+  take,
+  drop,
+  get_or,
+  replicate,
+  Option,
+  Some,
+  None,
+  Result,
+  Ok,
+  Err,
+  refl,
+  sym,
+  ap,
+  ◌∙◌,
+  subst,
+  arith,
+  append_assoc,
+}
+use Rattle.std.specs.Prelude.{position, nat_lt, nat_le, not, ◌&&◌}
+use Rattle.std.specs.List.{position_or_len}
+use Rattle.std.proofs.lemmas.Bool.{ltb-true, leb-true, lt-ltb, le-leb, ltb-false}
 use Rattle.std.proofs.lemmas.List.{drop_more, drop-drop, length-drop, length-append, length-replicate, append-nil}
 use Rattle.schedules.specs.declared.schedule.Turn.{Turn}
 use Rattle.schedules.specs.declared.reader.Entry.{Entry}
 use Rattle.schedules.specs.declared.reader.ScheduleFault.{ScheduleFault}
-use Rattle.schedules.specs.declared.reader.ScheduleFault.TheVariants.{BadWord, NoProcess, TooMany}
-use Rattle.schedules.specs.Texts.{is_blank, Word, ends_word, with_byte, words, word_length, is_digit, value_from, in_range, number_of, spelled, admitted_entry, admitted, followed, entries, turn_of, turns_in, after_turns, text_turns}
+use Rattle.schedules.specs.declared.reader.ScheduleFault.TheVariants.{NoProcess, TooMany}
+use Rattle.schedules.specs.Texts.{
+  is_blank,
+  Word,
+  ends_word,
+  with_byte,
+  words,
+  word_length,
+  is_digit,
+  value_from,
+  in_range,
+  number_of,
+  spelled,
+  admitted_entry,
+  admitted,
+  followed,
+  entries,
+  turn_of,
+  turns_in,
+  after_turns,
+  text_turns,
+}
 
 -- ---- words
 
 abbrev Front : ℕ → ℕ → List ℕ → Type 0
 Front i b bs = with_byte false (ends_word bs) i b (words (i + 1) bs) ≡ record { place = i; bytes = b ∷ take (word_length bs) bs } ∷ words (i + 1 + word_length bs) (drop (word_length bs) bs)
 
-front_by : (i b c : ℕ) (cs : List ℕ) → Front (i + 1) c cs → (t : Bool) → is_blank c ≡ t → with_byte false t i b (words (i + 1) (c ∷ cs)) ≡ record { place = i; bytes = b ∷ take (cond t 0 (suc (word_length cs))) (c ∷ cs) } ∷ words (i + 1 + cond t 0 (suc (word_length cs))) (drop (cond t 0 (suc (word_length cs))) (c ∷ cs))
+front_by : (i b c : ℕ) (cs : List ℕ) → Front (i + 1) c cs → (t : Bool) → is_blank c ≡ t
+    → with_byte false t i b (words (i + 1) (c ∷ cs)) ≡ record { place = i; bytes = b ∷ take (cond t 0 (suc (word_length cs))) (c ∷ cs) } ∷ words (i + 1 + cond t 0 (suc (word_length cs))) (drop
+    (cond t 0 (suc (word_length cs))) (c ∷ cs))
 front_by i b c cs ih true e = let k : i + 1 ≡ i + 1 + 0 = omega arith in ap (λ j. record { place = i; bytes = b ∷ [] } ∷ words j (c ∷ cs)) k
 front_by i b c cs ih false e =
     let k : i + 1 + 1 + word_length cs ≡ i + 1 + suc (word_length cs) = omega arith in
@@ -44,7 +103,8 @@ pub blank_at : (bytes : List ℕ) (i : ℕ) → i < length bytes → is_blank (g
 blank_at bytes i l h = ap (words i) (drop_more bytes i 0 l) ∙ ap (λ t. with_byte t (ends_word (drop (i + 1) bytes)) i (get_or bytes i 0) (words (i + 1) (drop (i + 1) bytes))) h
 
 -- a word at place i
-pub word_at : (bytes : List ℕ) (i k : ℕ) → i < length bytes → is_blank (get_or bytes i 0) ≡ false → k ≡ word_length (drop i bytes) → words i (drop i bytes) ≡ record { place = i; bytes = take k (drop i bytes) } ∷ words (i + k) (drop (i + k) bytes)
+pub word_at : (bytes : List ℕ) (i k : ℕ) → i < length bytes → is_blank (get_or bytes i 0) ≡ false → k ≡ word_length (drop i bytes)
+    → words i (drop i bytes) ≡ record { place = i; bytes = take k (drop i bytes) } ∷ words (i + k) (drop (i + k) bytes)
 word_at bytes i k l h e =
     let m = word_length (drop (i + 1) bytes) in
     let d = drop_more bytes i 0 l in
@@ -156,7 +216,8 @@ pub entry_fits : (n made place : ℕ) (o : Option Entry) (e : Entry) → Ok e �
 entry_fits n made place None e h = absurd cc
 entry_fits n made place (Some f) e h = by (nat_lt f.proc n) (nat_le (made + f.times) 1000000) (ltb-true f.proc n) (leb-true (made + f.times) 1000000) h
   where
-    by : (s t : Bool) → (s ≡ true → f.proc < n) → (t ≡ true → made + f.times ≤ 1000000) → Ok e ≡ cond s (cond t (Ok f) (Err (TooMany place))) (Err (NoProcess place)) → (e.proc < n) × (made + e.times ≤ 1000000)
+    by : (s t : Bool) → (s ≡ true → f.proc < n) → (t ≡ true → made + f.times ≤ 1000000) → Ok e ≡ cond s (cond t (Ok f) (Err (TooMany place))) (Err (NoProcess place))
+        → (e.proc < n) × (made + e.times ≤ 1000000)
     by true true p q h = let k : f ≡ e = cc in subst (λ (e : Entry). (e.proc < n) × (made + e.times ≤ 1000000)) k (p refl, q refl)
     by true false p q h = absurd cc
     by false t p q h = absurd cc
@@ -165,13 +226,15 @@ after_followed : (ts : List Turn) (e : Entry) (r : Result (List Entry) ScheduleF
 after_followed ts e (Ok es) = ap Ok (sym (append_assoc ts (replicate e.times (turn_of e)) (turns_in es)))
 after_followed ts e (Err fault) = refl
 
-by_first : (n made : ℕ) (w : Word) (ws : List Word) (r : Result Entry ScheduleFault) → admitted n made w ≡ r → entries n made (w ∷ ws) ≡ elim r as (λ r. Result (List Entry) ScheduleFault) [ Ok e ↦ followed e (entries n (made + e.times) ws) | Err fault ↦ Err fault ]
+by_first : (n made : ℕ) (w : Word) (ws : List Word) (r : Result Entry ScheduleFault) → admitted n made w ≡ r
+    → entries n made (w ∷ ws) ≡ elim r as (λ r. Result (List Entry) ScheduleFault) [ Ok e ↦ followed e (entries n (made + e.times) ws) | Err fault ↦ Err fault ]
 by_first n made w ws r h = ap (λ (r : Result Entry ScheduleFault). elim r as (λ r. Result (List Entry) ScheduleFault) [ Ok e ↦ followed e (entries n (made + e.times) ws) | Err fault ↦ Err fault ]) h
 
 pub first_bad : (n made : ℕ) (ts : List Turn) (w : Word) (ws all : List Word) (fault : ScheduleFault) → all ≡ w ∷ ws → admitted n made w ≡ Err fault → after_turns ts (entries n made all) ≡ Err fault
 first_bad n made ts w ws all fault is h = ap (λ all. after_turns ts (entries n made all)) is ∙ ap (after_turns ts) (by_first n made w ws (Err fault) h)
 
-pub first_good : (n made more : ℕ) (ts us : List Turn) (w : Word) (ws all : List Word) (e : Entry) → all ≡ w ∷ ws → admitted n made w ≡ Ok e → us ≡ ts ++ replicate e.times (turn_of e) → more ≡ made + e.times → after_turns us (entries n more ws) ≡ after_turns ts (entries n made all)
+pub first_good : (n made more : ℕ) (ts us : List Turn) (w : Word) (ws all : List Word) (e : Entry) → all ≡ w ∷ ws → admitted n made w ≡ Ok e → us ≡ ts ++ replicate e.times (turn_of e)
+    → more ≡ made + e.times → after_turns us (entries n more ws) ≡ after_turns ts (entries n made all)
 first_good n made more ts us w ws all e is h us_is more_is =
     ap (λ us. after_turns us (entries n more ws)) us_is ∙ ap (λ k. after_turns (ts ++ replicate e.times (turn_of e)) (entries n k ws)) more_is
     ∙ sym (ap (λ all. after_turns ts (entries n made all)) is ∙ ap (after_turns ts) (by_first n made w ws (Ok e) h) ∙ after_followed ts e (entries n (made + e.times) ws))
@@ -182,7 +245,8 @@ code_ends_within bytes i k l long = omega (arith, long ∙ ap word_length (rest_
 -- the word at a place, as the code sees it
 module _ (n : ℕ) (ts : List Turn) (bytes : List ℕ) (i k made : ℕ) (word : Option Entry) (r : Result Entry ScheduleFault)
     (same : after_turns ts (entries n (length ts) (words i (drop i bytes))) ≡ text_turns n bytes) (l : i < length bytes) (h : is_blank (get_or bytes i 0) ≡ false)
-    (long : k ≡ word_length (take (length bytes - i) (drop i bytes))) (is : word ≡ spelled (take (i + k - i) (drop i bytes))) (made_is : made ≡ length ts) (told : r ≡ admitted_entry n made i word) where
+    (long : k ≡ word_length (take (length bytes - i) (drop i bytes))) (is : word ≡ spelled (take (i + k - i) (drop i bytes))) (made_is : made ≡ length ts)
+    (told : r ≡ admitted_entry n made i word) where
   long_is : k ≡ word_length (drop i bytes)
   long_is = long ∙ ap word_length (rest_is bytes i)
 

@@ -1,5 +1,37 @@
 -- The text of a schedule: which words it has, at which places, and what each spells.
-use Rattle.std.specs.Prelude.{ℕ, suc, ◌+◌, ◌-◌, ◌*◌, ◌^◌, ◌==◌, ◌&&◌, ◌||◌, nat_lt, nat_le, Bool, true, false, List, [], ◌∷◌, ◌++◌, length, take, drop, replicate, Option, Some, None, Result, Ok, Err, position, slice_index, if◌then◌else◌}
+use Rattle.std.specs.Prelude.{
+  ℕ,
+  suc,
+  ◌+◌,
+  ◌-◌,
+  ◌*◌,
+  ◌^◌,
+  ◌==◌,
+  ◌&&◌,
+  ◌||◌,
+  nat_lt,
+  nat_le,
+  Bool,
+  true,
+  false,
+  List,
+  [],
+  ◌∷◌,
+  ◌++◌,
+  length,
+  take,
+  drop,
+  replicate,
+  Option,
+  Some,
+  None,
+  Result,
+  Ok,
+  Err,
+  position,
+  slice_index,
+  if◌then◌else◌,
+}
 use Rattle.schedules.specs.declared.schedule.Turn.{Turn}
 use Rattle.schedules.specs.declared.reader.Entry.{Entry}
 use Rattle.schedules.specs.declared.reader.ScheduleFault.{ScheduleFault}

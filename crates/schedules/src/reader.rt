@@ -1,6 +1,7 @@
 //! Schedules from text.
 
 ghost use Rattle.std.specs.Prelude.{◌≡◌, ◌<◌, ◌≤◌, ◌⊎◌, ◌++◌, length, position, replicate, IfOk, OnOk, IfErr};
+ghost use Rattle.schedules.specs.Bounds.{AreFewTurns};
 ghost use Rattle.schedules.specs.Texts.{is_blank, word_length, is_mark, is_digit, number_of, spelled, admitted_entry, text_turns};
 ghost use Rattle.schedules.specs.declared.reader.ScheduleFault.TheVariants.{Memory};
 
@@ -42,6 +43,7 @@ pub fn read_schedule(alloc: Global, bytes: &[u8], n: u8) -> Result<Schedule, Sch
     requires few { n ≤ 32 }
     requires size { length bytes.now ≤ 4194304 }
     ensures text { IfOk result (λ s. text_turns n bytes.now ≡ Ok s) }
+    ensures turns { IfOk result (AreFewTurns n) }
     ensures refused { IfErr result (λ e. (e ≡ Memory) ⊎ (text_turns n bytes.now ≡ Err e)) }
 {
     let mut turns = Vec::new(alloc);

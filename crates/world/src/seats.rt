@@ -61,6 +61,7 @@ impl<P: Proc> Seats<P> {
         requires room { (x : P) → slice_get self.old i ≡ Some x → P.count_of x < 1000000 }
         ensures made { IfOk result (λ r. MadeAt P.stands_for P.name_of self.old self.new i r.0 r.1) }
         ensures refused { OnErr result (StayedAt P.stands_for P.name_of self.old self.new i) }
+        ensures origins { map P.origin_of self.new ≡ map P.origin_of self.old }
     {
         let seat = self.seats.swap_remove(i);
         let (seat, made) = step_seat(seat, alloc);
@@ -75,6 +76,7 @@ impl<P: Proc> Seats<P> {
         requires room { (x : P) → slice_get self.old i ≡ Some x → P.count_of x < 1000000 }
         ensures took { TookAt P.stands_for P.name_of self.old self.new i letter }
         ensures kind { (x : P) → slice_get self.old i ≡ Some x → result ≡ accepting (P.look_of x) letter }
+        ensures origins { map P.origin_of self.new ≡ map P.origin_of self.old }
     {
         let seat = self.seats.swap_remove(i);
         let (seat, kind) = give_seat(seat, letter);
@@ -108,6 +110,7 @@ fn step_seat<P: Proc>(
     ensures letter { IfOk result.1 (λ r. r.1 ≡ letter_made (P.name_of (process_in seat)) r.0) }
     ensures refused { OnErr result.1 (Stays (P.stands_for (process_in seat)) (P.stands_for (process_in result.0))) }
     ensures name { P.name_of (process_in result.0) ≡ P.name_of (process_in seat) }
+    ensures origin { P.origin_of (process_in result.0) ≡ P.origin_of (process_in seat) }
 {
     let _ = seat.process();
     match seat {
@@ -127,6 +130,7 @@ fn give_seat<P: Proc>(seat: Seat<P>, letter: Letter) -> (Seat<P>, Kind)
     ensures took { Takes (P.stands_for (process_in seat)) (P.stands_for (process_in result.0)) (message_of letter) }
     ensures kind { result.1 ≡ accepting (P.look_of (process_in seat)) letter }
     ensures name { P.name_of (process_in result.0) ≡ P.name_of (process_in seat) }
+    ensures origin { P.origin_of (process_in result.0) ≡ P.origin_of (process_in seat) }
 {
     let _ = seat.process();
     match seat {

@@ -1,109 +1,14 @@
 //! A process that sends itself letters and accepts them.
 
-ghost use Rattle.std.specs.Prelude.{◌≡◌, true, [], ◌∷◌};
-ghost use Rattle.processes.specs.Listed.{are_proper};
-ghost use Rattle.processes.specs.Standing.{letter_made};
+ghost use Rattle.std.specs.Prelude.{◌≡◌, [], ◌∷◌};
 
 use crate::{Idle, Turned, World};
 use mailboxes::{FreeGate, ListMail, Mail};
-use nm_base::{Kind, Letter, LetterId, ProcNo, Stamp, WantOfMemory};
-use processes::{Look, Proc, Seat};
+use nm_base::{Kind, LetterId, ProcNo, WantOfMemory};
+use processes::{Listed, Proc, Seat};
 use schedules::Turn;
 use std::alloc::Global;
 use std::test::Fail;
-
-/// Goes through a list of kinds of events. An Accepted stands for a receive with its set.
-#[derive(Drop)]
-struct Actor {
-    events: u32,
-    kinds: Vec<Kind>,
-    ghost proper: { are_proper 0 kinds.items ≡ true },
-}
-
-/// The letter of an event of this process, if it is a send.
-fn letter_made(me: ProcNo, kind: Kind) -> Option<Letter>
-    ensures { result ≡ letter_made me kind }
-{
-    let Kind::Sent {
-        number,
-        dest,
-        chan,
-        len,
-        words,
-    } = kind
-    else {
-        return None;
-    };
-    Some(Letter {
-        id: LetterId { sender: me, number },
-        dest,
-        chan,
-        len,
-        words,
-        posted: 0,
-        stamp: Stamp { parts: [0; 32] },
-    })
-}
-
-impl Proc for Actor {
-    ghost use Rattle.std.specs.Prelude.{◌≡◌, slice_get};
-    ghost use Rattle.processes.specs.Listed.{listed, look_of};
-    ghost use Rattle.processes.specs.ListedFacts.{lawful_at, listed_shows};
-
-    ghost stands_for = { λ x s letters k. (s ≡ listed x.kinds.items) × (k ≡ x.events) };
-
-    ghost name_of = { λ x. record { no = 0 } };
-
-    ghost count_of = { λ x. x.events };
-
-    ghost look_of = { λ x. look_of (slice_get x.kinds.items x.events) };
-
-    fn me(&self) -> ProcNo {
-        ProcNo { no: 0 }
-    }
-
-    fn count(&self) -> u32 {
-        self.events
-    }
-
-    fn look(&self) -> Look {
-        match self.kinds.get(self.events as usize) {
-            None => Look::Ended { value: 0 },
-            Some(Kind::Accepted { set, .. }) => Look::Waiting { set: *set },
-            Some(_) => Look::Able,
-        }
-    }
-
-    fn step(&mut self, _alloc: Global) -> Result<(Kind, Option<Letter>), WantOfMemory> {
-        let Some(kind) = self.kinds.get(self.events as usize) else {
-            unreachable!()
-        };
-        let kind = *kind;
-        self.events += 1;
-        Ok((kind, letter_made(ProcNo { no: 0 }, kind)))
-    }
-
-    fn give(&mut self, letter: Letter) -> Kind {
-        let Look::Waiting { set } = self.look() else {
-            unreachable!()
-        };
-        self.events += 1;
-        Kind::Accepted { set, id: letter.id }
-    }
-
-    fn copy(&self, alloc: Global) -> Result<Self, WantOfMemory> {
-        Ok(Actor {
-            events: self.events,
-            kinds: Vec::from_slice(alloc, self.kinds.as_slice())?,
-        })
-    }
-
-    ghost lawful = { λ x s letters k h. lawful_at s x.kinds.items h.0 x.proper };
-
-    ghost shows = { λ x s letters k h. listed_shows s letters k x.events x.kinds.items h.0 h.1 };
-
-    ghost counts = { λ x s letters k h. h.1 };
-}
 
 /// The send of this number, to process 0 on channel 0.
 fn send(number: u32) -> Kind
@@ -119,7 +24,7 @@ fn send(number: u32) -> Kind
 }
 
 /// One process: it sends two letters, receives both, sends a third and receives it.
-fn one_talker(alloc: Global) -> Result<World<Actor, ListMail>, WantOfMemory> {
+fn one_talker(alloc: Global) -> Result<World<Listed, ListMail>, WantOfMemory> {
     let line = Kind::Line { line: 3 };
     let id = LetterId {
         sender: ProcNo { no: 0 },
@@ -144,7 +49,8 @@ fn one_talker(alloc: Global) -> Result<World<Actor, ListMail>, WantOfMemory> {
         Kind::Ended { value: 0 },
     ];
     let kinds = Vec::from_slice(alloc, &kinds)?;
-    let seat = Seat::begin(Actor { events: 0, kinds });
+    let process = Listed::new(ProcNo { no: 0 }, kinds);
+    let seat = Seat::begin(process);
     let mut seats = Vec::new(alloc);
     match seats.push(seat) {
         Ok(()) => {}
@@ -153,7 +59,7 @@ fn one_talker(alloc: Global) -> Result<World<Actor, ListMail>, WantOfMemory> {
     World::new(alloc, seats)
 }
 
-fn next(world: &mut World<Actor, ListMail>, alloc: Global) -> Result<Turned, WantOfMemory> {
+fn next(world: &mut World<Listed, ListMail>, alloc: Global) -> Result<Turned, WantOfMemory> {
     if world.n() == 0 || world.events() >= 1000000 {
         return Err(WantOfMemory);
     }

@@ -104,6 +104,7 @@ impl<P: Proc, M: Mail> World<P, M> {
         ensures turned { IfOk result (λ what. (s : ℕ → Script) (E : List Event) → IsWorldOf P.stands_for P.name_of M.letters self.old s E → HasTurned P.stands_for P.name_of M.letters (record { lets = G.lets gate.now; lets_go = G.lets_go gate.now }) self.new s E (record { proc = t.proc.no; pick = t.pick }) what) }
         ensures refused { OnErr result ((s : ℕ → Script) (E : List Event) → IsWorldOf P.stands_for P.name_of M.letters self.old s E → IsWorldOf P.stands_for P.name_of M.letters self.new s E) }
         ensures size { length self.new.processes ≡ length self.old.processes }
+        ensures origins { map P.origin_of self.new.processes ≡ map P.origin_of self.old.processes }
     {
         let process = self.seat(t.proc).process();
         let look = process.look();
@@ -186,6 +187,7 @@ impl<P: Proc, M: Mail> World<P, M> {
         ensures made { IfOk result (λ what. (s : ℕ → Script) (E : List Event) → IsWorldOf P.stands_for P.name_of M.letters self.old s E → HasMade P.stands_for P.name_of M.letters self.new s E p.no what) }
         ensures refused { OnErr result ((s : ℕ → Script) (E : List Event) → IsWorldOf P.stands_for P.name_of M.letters self.old s E → IsWorldOf P.stands_for P.name_of M.letters self.new s E) }
         ensures size { length self.new.processes ≡ length self.old.processes }
+        ensures origins { map P.origin_of self.new.processes ≡ map P.origin_of self.old.processes }
     {
         self.mail.reserve(alloc)?;
         let (kind, letter) = self.seats.step(alloc, p.no as usize)?;
@@ -209,6 +211,7 @@ impl<P: Proc, M: Mail> World<P, M> {
         requires room { self.old.events < 1000000 }
         ensures accepted { (s : ℕ → Script) (E : List Event) → IsWorldOf P.stands_for P.name_of M.letters self.old s E → HasAccepted P.stands_for P.name_of M.letters (record { lets = G.lets gate.now; lets_go = G.lets_go gate.now }) self.new s E t.proc.no set t.pick result }
         ensures size { length self.new.processes ≡ length self.old.processes }
+        ensures origins { map P.origin_of self.new.processes ≡ map P.origin_of self.old.processes }
     {
         let p = t.proc;
         let receive = self.receives[p.no as usize];

@@ -1,4 +1,6 @@
-use Rattle.std.proofs.Common.{◌≡◌, length, sym, ◌∙◌, inr, arith}
+use Rattle.std.proofs.Common.{◌≡◌, length, sym, ◌∙◌, subst, inr, arith}
+use Rattle.schedules.specs.Bounds.{AreFewTurns}
+use Rattle.schedules.proofs.BoundFacts.{few_read}
 use Rattle.schedules.proofs.TextFacts.{code_ends_within, bad_at, good_at, good_few}
 use Rattle.schedules.proofs.reader.read_schedule.Goals as goal
 
@@ -29,3 +31,7 @@ loop-i-preserved c =
           c.word_length.ensures c.spelled-word.ensures made c.admitted.ensures c.in-Ok.entry _ c.in-Ok.is c.in-Ok-add_turns.ensures;
       within = code_ends_within c.args.bytes.now c.loop-i.i c.word_length.result c.loop-i-test.true c.word_length.ensures;
     }
+
+pub returns-clause-turns : goal.returns-clause-turns
+returns-clause-turns c =
+    subst (AreFewTurns c.args.n) (sym c.from_vec.ensures) (few_read c.args.n c.loop-i.turns.items c.loop-i.i c.args.bytes.now c.loop-i.invariant.same c.loop-i-test.false)
