@@ -27,7 +27,8 @@ module _ (code : Code) (count me : ℕ) (a : Execution) (o : Vec ℕ Global) (sa
   shows s = filled (blocks_of code count me (control_of a)) s
 
   last_alike : (n : Pause) → IsLastThere code count me a n → IsLastThere code count me b n
-  last_alike (pause.Fault cause) h = λ events. ap (step code count me (control_of a)) (data_same events 1) ∙ h events ∙ ap (λ s. Stopped Over (shows s)) (sym (data_same (kind.Faulted cause ∷ events) 0))
+  last_alike (pause.Fault cause) h = λ events. ap (step code count me (control_of a)) (data_same events 1) ∙ h events
+      ∙ ap (λ s. Stopped Over (shows s)) (sym (data_same (kind.Faulted cause ∷ events) 0))
   last_alike (pause.End value) h = λ events. ap (step code count me (control_of a)) (data_same events 1) ∙ h events ∙ ap (λ s. Stopped Over (shows s)) (sym (data_same (kind.Ended value ∷ events) 0))
   last_alike n h = tt
 
@@ -40,10 +41,25 @@ module _ (code : Code) (count me : ℕ) (a : Execution) (o : Vec ℕ Global) (sa
   }
 
   holds_alike : Holds code a → Holds code b
-  holds_alike h = record { sound = h.sound; within = h.within; control = h.control; frames = h.frames; room = h.room; narrow = h.narrow }
+  holds_alike h = record { sound = h.sound; within = h.within; control = h.control; frames = h.frames; room = h.room; short = h.short }
 
   fresh_alike : IsFresh code a → IsFresh code b
-  fresh_alike f = record { function = f.function; place = f.place; line = f.line; base = f.base; own = f.own; outer = f.outer; callers = f.callers; words = f.words; letter = f.letter; output = same ∙ f.output; sent = f.sent; room = f.room; narrow = f.narrow }
+  fresh_alike f = record {
+    function = f.function;
+    place = f.place;
+    line = f.line;
+    base = f.base;
+    own = f.own;
+    outer = f.outer;
+    callers = f.callers;
+    words = f.words;
+    letter = f.letter;
+    output = same
+        ∙ f.output;
+    sent = f.sent;
+    room = f.room;
+    short = f.short;
+  }
 
   kept_plainly : (g : Bool) (n : Pause) → IsKept code count me a g n → IsKept code count me b g n
   kept_plainly g pause.Done k = tt

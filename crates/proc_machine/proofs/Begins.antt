@@ -23,7 +23,8 @@ kept_new code count me e n h s = onwards.kept_new code count me e n h s
 pub called_true : (code : Code) (old new : Execution) (r : Bool) → r ≡ true → IsCalled code old new r → IsCalled code old new true
 called_true code old new r e c = subst (λ (b : Bool). IsCalled code old new b) e c
 
-pub begins : (code : Code) (count me : ℕ) (first e : Execution) (n : Pause) → run_code code count me [] 0 0 ≡ Done (control_of first) (data_with first [] 0) → Reaches code count me (control_of first) (data_with first [] 0) (control_of e) (data_with e [] 0) → StandsBefore code count me e n → ComesTo code count me e true n [] []
+pub begins : (code : Code) (count me : ℕ) (first e : Execution) (n : Pause) → run_code code count me [] 0 0 ≡ Done (control_of first) (data_with first [] 0)
+    → Reaches code count me (control_of first) (data_with first [] 0) (control_of e) (data_with e [] 0) → StandsBefore code count me e n → ComesTo code count me e true n [] []
 begins code count me first e n h r s = record {
   steps = 0 + r.steps;
   comes = run_on code count me [] 0 0 r.steps (control_of first) (data_with first [] 0) h ∙ r.comes ∙ sym (stand_is code count me e n [] (not_done code count me e n s));
@@ -35,7 +36,8 @@ seen_callers : (ks : List KeptCaller) (outer : List ℕ) (bs : List (List (List 
 seen_callers [] outer bs = refl
 seen_callers (k ∷ ks) outer bs = ap suc (seen_callers ks (lower k.below outer) (later_blocks bs))
 
-seen_caller : (ks : List KeptCaller) (outer : List ℕ) (bs : List (List (List ℕ))) (i : ℕ) (k : KeptCaller) → slice_get ks i ≡ Some k → slice_get (callers_seen (callers_of ks outer) (with_blocks bs (frames_in ks))) i ≡ Some (frame_seen k.frame.function k.frame.place (frame_in k.frame))
+seen_caller : (ks : List KeptCaller) (outer : List ℕ) (bs : List (List (List ℕ))) (i : ℕ) (k : KeptCaller) → slice_get ks i ≡ Some k
+    → slice_get (callers_seen (callers_of ks outer) (with_blocks bs (frames_in ks))) i ≡ Some (frame_seen k.frame.function k.frame.place (frame_in k.frame))
 seen_caller [] outer bs i k h = cc
 seen_caller (j ∷ ks) outer bs zero k h = let same : j ≡ k = cc in ap (λ (x : KeptCaller). Some (frame_seen x.frame.function x.frame.place (frame_in x.frame))) same
 seen_caller (j ∷ ks) outer bs (suc i) k h = seen_caller ks (lower j.below outer) (later_blocks bs) i k h
@@ -49,7 +51,8 @@ module _ (code : Code) (count me : ℕ) (e : Execution) where
   seen_within true i h = let l = seen_length true refl in omega (arith, h, l)
   seen_within false i h = absurd (omega (arith, h))
 
-  pub seen_at : (b : Bool) (i : ℕ) (k : KeptCaller) → i < length (places_seen (control_of e) (shown_state code count me e b []).frames) → (i ≡ 0 → ⊥) → slice_get e.calls.callers (i - 1) ≡ Some k → slice_get (places_seen (control_of e) (shown_state code count me e b []).frames) i ≡ Some (frame_seen k.frame.function k.frame.place (frame_in k.frame))
+  pub seen_at : (b : Bool) (i : ℕ) (k : KeptCaller) → i < length (places_seen (control_of e) (shown_state code count me e b []).frames) → (i ≡ 0 → ⊥) → slice_get e.calls.callers (i - 1) ≡ Some k
+      → slice_get (places_seen (control_of e) (shown_state code count me e b []).frames) i ≡ Some (frame_seen k.frame.function k.frame.place (frame_in k.frame))
   seen_at false i k h not is = absurd (omega (arith, h))
   seen_at true zero k h not is = absurd (not refl)
   seen_at true (suc i) k h not is =

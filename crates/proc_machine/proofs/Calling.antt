@@ -1,5 +1,6 @@
 -- A call: it faults, or makes a frame.
-use Rattle.std.proofs.Common.{◌≡◌, ℕ, zero, suc, ◌+◌, ◌-◌, ◌<◌, ◌≤◌, Bool, true, false, List, [], ◌∷◌, ◌++◌, length, take, drop, reverse, Option, Some, None, refl, sym, ap, ◌∙◌, subst, arith, append_assoc, length-append}
+use Rattle.std.proofs.Common.{◌≡◌, ℕ, zero, suc, ◌+◌, ◌-◌, ◌<◌, ◌≤◌, Bool, true, false, List, [], ◌∷◌, ◌++◌}
+use Rattle.std.proofs.Common.{length, take, drop, reverse, Option, Some, None, refl, sym, ap, ◌∙◌, subst, arith, append_assoc, length-append}
 use Rattle.std.specs.Prelude.{nat_lt, nat_le, option_map, slice_get}
 use Rattle.std.proofs.lemmas.List.{append-nil}
 use Rattle.std.proofs.lemmas.Grind.{reverse_onto}
@@ -44,15 +45,18 @@ module _ (e : Execution) where
   abbrev at : List Kind → ℕ → State
   at events left = data_with e events left
 
-  deep_stops : (b : Bool) → b ≡ false → (k : Unit {0} → Run (Unit {0})) (j : Unit {0} → Run Control) (events : List Kind) → then_on (then_on (demand b DepthFull (at events 0)) k) j ≡ Stopped Able (at events 0)
+  deep_stops : (b : Bool) → b ≡ false → (k : Unit {0} → Run (Unit {0})) (j : Unit {0} → Run Control) (events : List Kind)
+      → then_on (then_on (demand b DepthFull (at events 0)) k) j ≡ Stopped Able (at events 0)
   deep_stops false h k j events = refl
   deep_stops true h k j events = cc
 
-  deep_next : (b : Bool) → b ≡ false → (k : Unit {0} → Run (Unit {0})) (j : Unit {0} → Run Control) (events : List Kind) → pause_by (then_on (then_on (demand b DepthFull (at events 1)) k) j) ≡ Some (Fault DepthFull)
+  deep_next : (b : Bool) → b ≡ false → (k : Unit {0} → Run (Unit {0})) (j : Unit {0} → Run Control) (events : List Kind)
+      → pause_by (then_on (then_on (demand b DepthFull (at events 1)) k) j) ≡ Some (Fault DepthFull)
   deep_next false h k j events = refl
   deep_next true h k j events = cc
 
-  deep_last : (b : Bool) → b ≡ false → (k : Unit {0} → Run (Unit {0})) (j : Unit {0} → Run Control) (events : List Kind) → then_on (then_on (demand b DepthFull (at events 1)) k) j ≡ Stopped Over (at (Faulted DepthFull ∷ events) 0)
+  deep_last : (b : Bool) → b ≡ false → (k : Unit {0} → Run (Unit {0})) (j : Unit {0} → Run Control) (events : List Kind)
+      → then_on (then_on (demand b DepthFull (at events 1)) k) j ≡ Stopped Over (at (Faulted DepthFull ∷ events) 0)
   deep_last false h k j events = refl
   deep_last true h k j events = cc
 
@@ -60,23 +64,28 @@ module _ (e : Execution) where
     abbrev after : (Unit {0} → Run (Unit {0})) → Unit {0} → Run (Unit {0})
     after k _ s = then_on (demand (nat_le (length s.words + size) 65536) DataFull s) k
 
-    fails_stops : (d : Bool) → d ≡ false → (k : Unit {0} → Run (Unit {0})) (j : Unit {0} → Run Control) (events : List Kind) → then_on (then_on (demand d DataFull (at events 0)) k) j ≡ Stopped Able (at events 0)
+    fails_stops : (d : Bool) → d ≡ false → (k : Unit {0} → Run (Unit {0})) (j : Unit {0} → Run Control) (events : List Kind)
+        → then_on (then_on (demand d DataFull (at events 0)) k) j ≡ Stopped Able (at events 0)
     fails_stops false h k j events = refl
     fails_stops true h k j events = cc
 
-    fails_next : (d : Bool) → d ≡ false → (k : Unit {0} → Run (Unit {0})) (j : Unit {0} → Run Control) (events : List Kind) → pause_by (then_on (then_on (demand d DataFull (at events 1)) k) j) ≡ Some (Fault DataFull)
+    fails_next : (d : Bool) → d ≡ false → (k : Unit {0} → Run (Unit {0})) (j : Unit {0} → Run Control) (events : List Kind)
+        → pause_by (then_on (then_on (demand d DataFull (at events 1)) k) j) ≡ Some (Fault DataFull)
     fails_next false h k j events = refl
     fails_next true h k j events = cc
 
-    fails_last : (d : Bool) → d ≡ false → (k : Unit {0} → Run (Unit {0})) (j : Unit {0} → Run Control) (events : List Kind) → then_on (then_on (demand d DataFull (at events 1)) k) j ≡ Stopped Over (at (Faulted DataFull ∷ events) 0)
+    fails_last : (d : Bool) → d ≡ false → (k : Unit {0} → Run (Unit {0})) (j : Unit {0} → Run Control) (events : List Kind)
+        → then_on (then_on (demand d DataFull (at events 1)) k) j ≡ Stopped Over (at (Faulted DataFull ∷ events) 0)
     fails_last false h k j events = refl
     fails_last true h k j events = cc
 
-    holds_goes : (d : Bool) → d ≡ true → (k : Unit {0} → Run (Unit {0})) (j : Unit {0} → Run Control) (events : List Kind) → then_on (then_on (demand d DataFull (at events 0)) k) j ≡ then_on (k tt (at events 0)) j
+    holds_goes : (d : Bool) → d ≡ true → (k : Unit {0} → Run (Unit {0})) (j : Unit {0} → Run Control) (events : List Kind)
+        → then_on (then_on (demand d DataFull (at events 0)) k) j ≡ then_on (k tt (at events 0)) j
     holds_goes true h k j events = refl
     holds_goes false h k j events = cc
 
-    past_depth : (b : Bool) → b ≡ true → (k : Unit {0} → Run (Unit {0})) (j : Unit {0} → Run Control) (events : List Kind) (left : ℕ) → then_on (then_on (demand b DepthFull (at events left)) (after k)) j ≡ then_on (then_on (demand (nat_le (length e.words + size) 65536) DataFull (at events left)) k) j
+    past_depth : (b : Bool) → b ≡ true → (k : Unit {0} → Run (Unit {0})) (j : Unit {0} → Run Control) (events : List Kind) (left : ℕ)
+        → then_on (then_on (demand b DepthFull (at events left)) (after k)) j ≡ then_on (then_on (demand (nat_le (length e.words + size) 65536) DataFull (at events left)) k) j
     past_depth true h k j events left = refl
     past_depth false h k j events left = cc
 
@@ -121,7 +130,8 @@ module _ (e : Execution) where
   -- a call's frame, with these operands left to the caller above those of its callers, and these words first
   abbrev made : ℕ → FunctionCode → List Kind → List ℕ → List ℕ → List ℕ → Outcome Control
   made number g events stack outer words =
-      Done (record { function = number; pc = 0; stack = []; callers = record { function = e.frame.function; pc = e.frame.place; stack = stack } ∷ callers_of e.calls.callers outer }) (new_frame number g.line g.frame_words words (data_with e events 0))
+      Done (record { function = number; pc = 0; stack = []; callers = record { function = e.frame.function; pc = e.frame.place; stack = stack } ∷ callers_of e.calls.callers outer })
+      (new_frame number g.line g.frame_words words (data_with e events 0))
 
   module _ (number : ℕ) (f : FunctionFrame) where
     pub called_deep : (o : Option FunctionCode) → option_map frame_of o ≡ Some f → depth ≡ false → Pauses (called number o (control_of e)) e (Fault DepthFull)
@@ -139,20 +149,29 @@ module _ (e : Execution) where
           last = λ events. past_depth g.frame_words depth h _ _ events 1 ∙ fails_last g.frame_words (fits g.frame_words) d2 _ _ events;
         }
 
-    pub called_goes : (o : Option FunctionCode) → option_map frame_of o ≡ Some f → depth ≡ true → fits f.frame_words ≡ true → f.param_words ≤ length e.calls.own → (events : List Kind) → called number o (control_of e) (data_with e events 0) ≡ Done (control_of (opened number f e)) (data_with (opened number f e) events 0)
+    pub called_goes : (o : Option FunctionCode) → option_map frame_of o ≡ Some f → depth ≡ true → fits f.frame_words ≡ true → f.param_words ≤ length e.calls.own → (events : List Kind)
+        → called number o (control_of e) (data_with e events 0) ≡ Done (control_of (opened number f e)) (data_with (opened number f e) events 0)
     called_goes None is h d few events = cc
     called_goes (Some g) is h d few events =
         let same : frame_of g ≡ f = cc in
-        subst (λ (x : FunctionFrame). fits x.frame_words ≡ true → x.param_words ≤ length e.calls.own → called number (Some g) (control_of e) (data_with e events 0) ≡ Done (control_of (opened number x e)) (data_with (opened number x e) events 0)) same by_frame d few
+        subst (λ (x : FunctionFrame). fits x.frame_words ≡ true → x.param_words ≤ length e.calls.own → called number (Some g) (control_of e) (data_with e events 0) ≡ Done
+        (control_of (opened number x e)) (data_with (opened number x e) events 0)) same by_frame d few
       where
-        by_frame : fits g.frame_words ≡ true → g.param_words ≤ length e.calls.own → called number (Some g) (control_of e) (data_with e events 0) ≡ Done (control_of (opened number (frame_of g) e)) (data_with (opened number (frame_of g) e) events 0)
+        by_frame : fits g.frame_words ≡ true → g.param_words ≤ length e.calls.own
+            → called number (Some g) (control_of e) (data_with e events 0) ≡ Done (control_of (opened number (frame_of g) e)) (data_with (opened number (frame_of g) e) events 0)
         by_frame d few =
             let own = e.calls.own in
             let n = g.param_words in
             let left = drop n own in
             past_depth g.frame_words depth h _ _ events 0
             ∙ holds_goes g.frame_words (fits g.frame_words) d _ _ events
-            ∙ ap (λ (p : List ℕ × List ℕ). Done (record { function = number; pc = 0; stack = []; callers = record { function = e.frame.function; pc = e.frame.place; stack = p.1 } ∷ callers_of e.calls.callers e.calls.outer }) (new_frame number g.line g.frame_words p.0 (data_with e events 0))) (popped_are n own [] few)
+            ∙ ap (λ (p : List ℕ × List ℕ). Done (record {
+              function = number;
+              pc = 0;
+              stack = [];
+              callers = record { function = e.frame.function; pc = e.frame.place; stack = p.1 } ∷ callers_of
+                  e.calls.callers e.calls.outer;
+            }) (new_frame number g.line g.frame_words p.0 (data_with e events 0))) (popped_are n own [] few)
             ∙ ap (λ l. made number g events left e.calls.outer l) (append-nil (reverse (take n own)))
             ∙ ap (λ l. made number g events l e.calls.outer (reverse (take n own))) (sym (upper_all left e.calls.outer))
             ∙ ap (λ l. made number g events (upper (length e.calls.outer) (left ++ e.calls.outer)) l (reverse (take n own))) (sym (lower_all left e.calls.outer))
@@ -165,7 +184,8 @@ pub size_is : (o : Option FunctionCode) (f : FunctionFrame) → option_map frame
 size_is None f h = cc
 size_is (Some g) f h = let same : g.frame_words ≡ f.frame_words = cc in same
 
-pub call_keeps : (code : Code) (number : ℕ) (f : FunctionFrame) (old new : Execution) → new ≡ opened number f old → option_map frame_of (slice_get code.functions number) ≡ Some f → length old.words + f.frame_words ≤ 65536 → Keeps code (instr.Call number) old new
+pub call_keeps : (code : Code) (number : ℕ) (f : FunctionFrame) (old new : Execution) → new ≡ opened number f old → option_map frame_of (slice_get code.functions number) ≡ Some f
+    → length old.words + f.frame_words ≤ 65536 → Keeps code (instr.Call number) old new
 call_keeps code number f old new e is fits =
     let size = size_is (slice_get code.functions number) f is in
     let inner : length old.words + frame_words_by (slice_get code.functions number) ≤ 65536 = omega (arith, size, fits) in

@@ -30,7 +30,8 @@ module _ (bs : List ℕ) (b : ℕ) where
   two_signs e = ap (λ (t : Bool). elim t [ true ↦ conversions_from false bs | false ↦ by_test (is_conversion b) ]) e
 
   pub one_conversion : (k : ℕ) → (b == 37) ≡ false → is_conversion b ≡ true → and_so_many k (conversions_from true (b ∷ bs)) ≡ and_so_many (k + 1) (conversions_from false bs)
-  one_conversion k e h = ap (λ (t : Bool). and_so_many k (elim t [ true ↦ conversions_from false bs | false ↦ by_test (is_conversion b) ])) e ∙ ap (λ t. and_so_many k (by_test t)) h ∙ more_so_many k (conversions_from false bs)
+  one_conversion k e h = ap (λ (t : Bool). and_so_many k (elim t [ true ↦ conversions_from false bs | false ↦ by_test (is_conversion b) ])) e ∙ ap (λ t. and_so_many k (by_test t)) h
+      ∙ more_so_many k (conversions_from false bs)
 
   pub no_conversion : (b == 37) ≡ false → is_conversion b ≡ false → conversions_from true (b ∷ bs) ≡ None
   no_conversion e h = ap (λ (t : Bool). elim t [ true ↦ conversions_from false bs | false ↦ by_test (is_conversion b) ]) e ∙ ap by_test h

@@ -98,10 +98,12 @@ module _ (code : Code) (count me : ℕ) (e : Execution) where
   abbrev Kept : Bool → Pause → Type 0
   Kept b n = ∥ IsKept code count me e b n ∥₁
 
-  ends_begun : (k : Kind) (n : Pause) → (n ≡ pause.Done → ⊥) → (inputs : List Message) (events : List Kind) (c : Comes true n inputs events) → step code count me (control_of e) (data_with e events 1) ≡ Stopped Over (shown_state code count me e true (k ∷ events)) → Comes true pause.Done inputs (k ∷ events)
+  ends_begun : (k : Kind) (n : Pause) → (n ≡ pause.Done → ⊥) → (inputs : List Message) (events : List Kind) (c : Comes true n inputs events)
+      → step code count me (control_of e) (data_with e events 1) ≡ Stopped Over (shown_state code count me e true (k ∷ events)) → Comes true pause.Done inputs (k ∷ events)
   ends_begun k n not inputs events c h = subst (λ (l : List Message). Comes true pause.Done l (k ∷ events)) (append-nil inputs) (ends_there code count me e n not [] inputs events c k h)
 
-  ends_before : (cause : FaultCause) → cause ≡ DataFull → Kept false (pause.Fault cause) → (inputs : List Message) (events : List Kind) → Comes false (pause.Fault cause) inputs events → Comes false pause.Done inputs (kind.Faulted cause ∷ events)
+  ends_before : (cause : FaultCause) → cause ≡ DataFull → Kept false (pause.Fault cause) → (inputs : List Message) (events : List Kind) → Comes false (pause.Fault cause) inputs events
+      → Comes false pause.Done inputs (kind.Faulted cause ∷ events)
   ends_before cause is k inputs [] c =
       let c2 = subst (λ x. Comes false (pause.Fault x) inputs []) is c in
       subst (λ x. Comes false pause.Done inputs (kind.Faulted x ∷ [])) (sym is) (record { steps = 0; comes = ∥∥₁_elim k (Outcome-set _ _) (λ h. ends_large code count me e h.1 inputs c2) })
@@ -115,7 +117,8 @@ module _ (code : Code) (count me : ℕ) (e : Execution) where
   never_end : (value : ℤ) → IsKept code count me e false (pause.End value) → ⊥
   never_end value k = let no = k.0 in cc
 
-  ends_at : (b : Bool) (last : Kind) → is_last last ≡ true → Kept b (pause_of last) → (inputs : List Message) (events : List Kind) → Comes b (pause_of last) inputs events → Comes b pause.Done inputs (last ∷ events)
+  ends_at : (b : Bool) (last : Kind) → is_last last ≡ true → Kept b (pause_of last) → (inputs : List Message) (events : List Kind) → Comes b (pause_of last) inputs events
+      → Comes b pause.Done inputs (last ∷ events)
   ends_at true (kind.Ended value) h k inputs events c = ends_begun (kind.Ended value) (pause.End value) (λ e. cc) inputs events c (∥∥₁_elim k (Outcome-set _ _) (λ h. h.1.last events))
   ends_at true (kind.Faulted cause) h k inputs events c = ends_begun (kind.Faulted cause) (pause.Fault cause) (λ e. cc) inputs events c (∥∥₁_elim k (Outcome-set _ _) (λ h. h.1.last events))
   ends_at false (kind.Ended value) h k inputs events c = absurd (∥∥₁_elim k no_proof (never_end value))
@@ -125,6 +128,7 @@ module _ (code : Code) (count me : ℕ) (e : Execution) where
   ends_at b (kind.Accepted set id) h k inputs events c = cc
   ends_at b (kind.Printed bytes) h k inputs events c = cc
 
-  pub ends_by : (b : Bool) (n : Pause) (last : Kind) → is_last last ≡ true → n ≡ pause_of last → Kept b n → (inputs : List Message) (events : List Kind) → Comes b n inputs events → Comes b pause.Done inputs (last ∷ events)
+  pub ends_by : (b : Bool) (n : Pause) (last : Kind) → is_last last ≡ true → n ≡ pause_of last → Kept b n → (inputs : List Message) (events : List Kind) → Comes b n inputs events
+      → Comes b pause.Done inputs (last ∷ events)
   ends_by b n last h is k inputs events c =
       ends_at b last h (subst (λ (x : Pause). Kept b x) is k) inputs events (subst (λ (x : Pause). Comes b x inputs events) is c)

@@ -6,12 +6,15 @@ pub mod Sending
 pub mod Moving
 pub mod OfKinds
 pub mod Advancing
+pub mod Levels
 pub mod Readiness
 pub mod Stepping
 pub mod Running
 pub mod Starting
 pub mod Sets
 pub mod Standings
+pub mod Nexts
+pub mod Letters
 pub mod Pending
 pub mod Onwards
 pub mod Alikes

@@ -1,5 +1,5 @@
 -- Operands of some kinds, when they are taken off.
-use Rattle.std.proofs.Common.{◌≡◌, ℕ, zero, suc, ◌+◌, ◌<◌, ◌≤◌, ◌^◌, Bool, true, false, List, [], ◌∷◌, length, drop, Option, Some, None, refl, ap, subst, arith}
+use Rattle.std.proofs.Common.{◌-◌, ◌≡◌, ℕ, zero, suc, ◌+◌, ◌<◌, ◌≤◌, ◌^◌, Bool, true, false, List, [], ◌∷◌, length, drop, Option, Some, None, refl, ap, subst, arith}
 use Rattle.std.specs.Prelude.{IsTrue, ◌&&◌, slice_index}
 use Rattle.stack_code.specs.Machine.{below}
 use Rattle.stack_code.specs.Valid.{Operand, Value, Place, ArrayPlace, ArrayLength, same_operand, pushed, go_on}
@@ -45,7 +45,8 @@ taken_are (k ∷ ws) [] t xs a e = cc
 taken_are (k ∷ ws) (x ∷ kinds) t [] a e = absurd a
 taken_are (k ∷ ws) (x ∷ kinds) t (v ∷ vs) a e = by (λ d. taken_are ws kinds t vs a.1 d) (same_operand k x) refl e
   where
-    by : (valid.below ws kinds ≡ Some t → AreOf t (drop (length ws) vs) × Tops ws vs) → (b : Bool) → same_operand k x ≡ b → (elim b [ true ↦ valid.below ws kinds | false ↦ None ]) ≡ Some t → AreOf t (drop (length ws) vs) × (IsOf k v × Tops ws vs)
+    by : (valid.below ws kinds ≡ Some t → AreOf t (drop (length ws) vs) × Tops ws vs) → (b : Bool) → same_operand k x ≡ b → (elim b [ true ↦ valid.below ws kinds | false ↦ None ]) ≡ Some t
+        → AreOf t (drop (length ws) vs) × (IsOf k v × Tops ws vs)
     by rest true s d = let r = rest d in (r.0, (subst (λ (z : Operand). IsOf z v) (same_is k x s) a.0, r.1))
     by rest false s d = cc
 
@@ -94,7 +95,7 @@ below_two [] = refl
 below_two (x ∷ []) = refl
 below_two (x ∷ y ∷ xs) = refl
 
-pub below_length : (xs : List ℕ) → length (below xs) ≤ length xs
+pub below_length : (xs : List ℕ) → length (below xs) ≤ length xs - 1
 below_length [] = omega arith
 below_length (x ∷ xs) = omega arith
 

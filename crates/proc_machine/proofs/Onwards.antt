@@ -28,7 +28,9 @@ use Rattle.proc_machine.proofs.Standings.{goes_through}
 
 module _ (code : Code) (count me : ℕ) where
   module _ (old mid new : Execution) (i : Instr) (is : instr_at code old ≡ Some i) where
-    pub after_by : (k : Kind) (next : Pause) → Makes code count me i old mid k → ((events : List Kind) → Reaches code count me (control_of mid) (data_with mid events 0) (control_of new) (data_with new events 0)) → StandsBefore code count me new next → After code count me old new k next
+    pub after_by : (k : Kind) (next : Pause) → Makes code count me i old mid k
+        → ((events : List Kind) → Reaches code count me (control_of mid) (data_with mid events 0) (control_of new) (data_with new events 0)) → StandsBefore code count me new next
+        → After code count me old new k next
     after_by k next made reaches stands = record {
       middle = mid;
       makes = λ events. step_of code count me old mid i is (data_with old events 1) ∙ ap (shown code count me (control_of old)) (made.0 events);
@@ -39,7 +41,9 @@ module _ (code : Code) (count me : ℕ) where
     pub holds_made : (k : Kind) → Makes code count me i old mid k → ∥ Holds code old ∥₁ → ∥ Holds code mid ∥₁
     holds_made k made h = holds_after code count me old mid i is (data_with old [] 1) (data_with mid (k ∷ []) 0) (made.0 []) made.1 h
 
-  pub accepts_by : (old mid new : Execution) (set : ℕ) (letter : Letter) (next : Pause) → instr_at code old ≡ Some instr.Receive → Takes code count me old mid set letter → ((events : List Kind) → Reaches code count me (control_of mid) (data_with mid events 0) (control_of new) (data_with new events 0)) → StandsBefore code count me new next → Accepts code count me old new set letter next
+  pub accepts_by : (old mid new : Execution) (set : ℕ) (letter : Letter) (next : Pause) → instr_at code old ≡ Some instr.Receive → Takes code count me old mid set letter
+      → ((events : List Kind) → Reaches code count me (control_of mid) (data_with mid events 0) (control_of new) (data_with new events 0)) → StandsBefore code count me new next
+      → Accepts code count me old new set letter next
   accepts_by old mid new set letter next is took reaches stands = record {
     middle = mid;
     takes = λ events. step_of code count me old mid instr.Receive is (record (data_with old events 1) { inputs = message_of letter ∷ [] }) ∙ ap (shown code count me (control_of old)) (took.0 events);
@@ -60,7 +64,8 @@ module _ (code : Code) (count me : ℕ) where
         ∙ ap pause_by (sym (step_of code count me e e i is (data_with e [] 1)))
         ∙ s.next_is []
 
-  pub addressed_is : (e : Execution) (words : ℕ) → instr_at code e ≡ Some (instr.Send words) → IsReady code (instr.Send words) e → StandsBefore code count me e pause.Send → is_addressed count words e.calls.own ≡ true
+  pub addressed_is : (e : Execution) (words : ℕ) → instr_at code e ≡ Some (instr.Send words) → IsReady code (instr.Send words) e → StandsBefore code count me e pause.Send
+      → is_addressed count words e.calls.own ≡ true
   addressed_is e words is ready s = by (is_addressed count words e.calls.own) refl
     where
       wrong : is_addressed count words e.calls.own ≡ false → ⊥
@@ -148,12 +153,17 @@ module _ (code : Code) (count me : ℕ) where
 
   -- ---- runs
 
-  pub after_comes : (e e3 : Execution) (b : Bool) (n n3 : Pause) (k : Kind) → leads n ≡ true → Kept e b n → After code count me e e3 k n3 → (inputs : List Message) (events : List Kind) → ComesTo code count me e b n inputs events → ComesTo code count me e3 b n3 inputs (k ∷ events)
+  pub after_comes : (e e3 : Execution) (b : Bool) (n n3 : Pause) (k : Kind) → leads n ≡ true → Kept e b n → After code count me e e3 k n3 → (inputs : List Message) (events : List Kind)
+      → ComesTo code count me e b n inputs events → ComesTo code count me e3 b n3 inputs (k ∷ events)
   after_comes e e3 true n n3 k h kept a inputs events c =
-      subst (λ (l : List Message). ComesTo code count me e3 true n3 l (k ∷ events)) (append-nil inputs) (goes_through code count me e n (not_over n h) [] inputs events c k a.middle e3 n3 (a.makes events) (a.reaches (k ∷ events)) a.stands)
+      subst (λ (l : List Message). ComesTo code count me e3 true n3 l (k ∷ events)) (append-nil inputs)
+      (goes_through code count me e n (not_over n h) [] inputs events c k a.middle e3 n3 (a.makes events) (a.reaches (k ∷ events)) a.stands)
   after_comes e e3 false n n3 k h kept a inputs events c = absurd (∥∥₁_elim kept no_proof (never_large e n h))
 
-  pub accepts_comes : (e e3 : Execution) (b : Bool) (n n3 : Pause) (set : ℕ) (letter : Letter) → leads n ≡ true → Kept e b n → Accepts code count me e e3 set letter n3 → (inputs : List Message) (events : List Kind) → ComesTo code count me e b n inputs events → ComesTo code count me e3 b n3 (inputs ++ message_of letter ∷ []) (kind.Accepted set letter.id ∷ events)
+  pub accepts_comes : (e e3 : Execution) (b : Bool) (n n3 : Pause) (set : ℕ) (letter : Letter) → leads n ≡ true → Kept e b n → Accepts code count me e e3 set letter n3
+      → (inputs : List Message) (events : List Kind) → ComesTo code count me e b n inputs events
+      → ComesTo code count me e3 b n3 (inputs ++ message_of letter ∷ []) (kind.Accepted set letter.id ∷ events)
   accepts_comes e e3 true n n3 set letter h kept a inputs events c =
-      goes_through code count me e n (not_over n h) (message_of letter ∷ []) inputs events c (kind.Accepted set letter.id) a.middle e3 n3 (a.takes events) (a.reaches (kind.Accepted set letter.id ∷ events)) a.stands
+      goes_through code count me e n (not_over n h) (message_of letter ∷ []) inputs events c (kind.Accepted set letter.id) a.middle e3 n3 (a.takes events)
+      (a.reaches (kind.Accepted set letter.id ∷ events)) a.stands
   accepts_comes e e3 false n n3 set letter h kept a inputs events c = absurd (∥∥₁_elim kept no_proof (never_large e n h))

@@ -8,7 +8,9 @@ pub digits_after : (k b n : ℕ) (after : List ℕ) → digits k b n after ≡ d
 digits_after zero b n after = refl
 digits_after (suc k) b n after = by (digits_after k b (n / b) (digit (n % b) ∷ after)) (digits_after k b (n / b) (digit (n % b) ∷ [])) (n / b)
   where
-    by : digits k b (n / b) (digit (n % b) ∷ after) ≡ digits k b (n / b) [] ++ digit (n % b) ∷ after → digits k b (n / b) (digit (n % b) ∷ []) ≡ digits k b (n / b) [] ++ digit (n % b) ∷ [] → (q : ℕ) → (elim q [ zero ↦ digit (n % b) ∷ after | suc p ↦ digits k b (n / b) (digit (n % b) ∷ after) ]) ≡ (elim q [ zero ↦ digit (n % b) ∷ [] | suc p ↦ digits k b (n / b) (digit (n % b) ∷ []) ]) ++ after
+    by : digits k b (n / b) (digit (n % b) ∷ after) ≡ digits k b (n / b) [] ++ digit (n % b) ∷ after → digits k b (n / b) (digit (n % b) ∷ []) ≡ digits k b (n / b) [] ++ digit (n % b) ∷ [] → (q : ℕ)
+        → (elim q [ zero ↦ digit (n % b) ∷ after | suc p ↦ digits k b (n / b) (digit (n % b) ∷ after) ]) ≡
+        (elim q [ zero ↦ digit (n % b) ∷ [] | suc p ↦ digits k b (n / b) (digit (n % b) ∷ []) ]) ++ after
     by h i zero = refl
     by h i (suc p) = h ∙ sym (append_assoc (digits k b (n / b) []) (digit (n % b) ∷ []) after) ∙ ap (λ l. l ++ after) (sym i)
 
@@ -61,7 +63,9 @@ module _ (bs values : List ℕ) (b : ℕ) where
       ap (λ (t : Bool). elim t [ true ↦ 37 ∷ printed_from false bs values | false ↦ converted b (first_of_values values) ++ printed_from false bs (later_values values) ]) e
 
 -- what is printed already, and what is still to come
-pub next_shown : (text values out out2 shown whole : List ℕ) (i t t2 : ℕ) (a a2 : Bool) → i < length text → out ++ printed_from a (drop i text) (drop t values) ≡ whole → printed_from a (get_or text i 0 ∷ drop (i + 1) text) (drop t values) ≡ shown ++ printed_from a2 (drop (i + 1) text) (drop t2 values) → out2 ≡ out ++ shown → out2 ++ printed_from a2 (drop (i + 1) text) (drop t2 values) ≡ whole
+pub next_shown : (text values out out2 shown whole : List ℕ) (i t t2 : ℕ) (a a2 : Bool) → i < length text → out ++ printed_from a (drop i text) (drop t values) ≡ whole
+    → printed_from a (get_or text i 0 ∷ drop (i + 1) text) (drop t values) ≡ shown ++ printed_from a2 (drop (i + 1) text) (drop t2 values) → out2 ≡ out ++ shown
+    → out2 ++ printed_from a2 (drop (i + 1) text) (drop t2 values) ≡ whole
 next_shown text values out out2 shown whole i t t2 a a2 lt h r n =
     ap (λ l. l ++ printed_from a2 (drop (i + 1) text) (drop t2 values)) n
     ∙ append_assoc out shown (printed_from a2 (drop (i + 1) text) (drop t2 values))

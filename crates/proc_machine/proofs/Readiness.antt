@@ -1,5 +1,6 @@
 -- In valid code an instruction finds what it needs.
-use Rattle.std.proofs.Common.{◌≡◌, ℕ, zero, suc, ◌+◌, ◌<◌, ◌≤◌, ◌^◌, ◌⊎◌, inl, inr, ⊎_elim, Bool, true, false, List, [], ◌∷◌, length, drop, Option, Some, None, refl, sym, ap, ◌∙◌, subst, arith, rules, tests}
+use Rattle.std.proofs.Common.{◌≡◌, ℕ, zero, suc, ◌+◌, ◌<◌, ◌≤◌, ◌^◌, ◌⊎◌, inl, inr, ⊎_elim, Bool, true, false, List}
+use Rattle.std.proofs.Common.{[], ◌∷◌, length, drop, Option, Some, None, refl, sym, ap, ◌∙◌, subst, arith, rules, tests}
 use Rattle.std.specs.Prelude.{IsTrue, ◌&&◌, ◌||◌, ◌==◌, not, is_none, unwrap_or, slice_get, slice_index, nat_lt, nat_le, if◌then◌else◌}
 use Rattle.std.specs.List.{list_all, list_any}
 use Rattle.std.proofs.lemmas.Bool.{ltb-true, leb-true, eqb-true}
@@ -8,7 +9,8 @@ use Rattle.stack_code.specs.declared.instr.Instr.TheVariants as instr
 use Rattle.stack_code.specs.declared.code.Variable.{Variable}
 use Rattle.stack_code.specs.Code.{Placed, FunctionCode, Code, params_of, steps_of, steps_by}
 use Rattle.stack_code.specs.Machine.{conversions, text_at}
-use Rattle.stack_code.specs.Valid.{Operand, Value, Place, IsSound, is_within, is_fit_function, is_main, laid_out_from, words_of_all, words_of_variable, is_array_at, is_length, finds, follows, follows_if_any, names_fit, go_on, pushed, taking, twice, swapped, is_single, values, operands_by, operands_of}
+use Rattle.stack_code.specs.Valid.{Operand, Value, Place, IsSound, is_within, is_fit_function, is_main, laid_out_from, words_of_all, words_of_variable, is_array_at, is_length, finds}
+use Rattle.stack_code.specs.Valid.{follows, follows_if_any, names_fit, go_on, pushed, taking, twice, swapped, is_single, values, operands_by, operands_of}
 use Rattle.stack_code.specs.Valid as valid
 use Rattle.proc_machine.specs.declared.execution.Execution.{Execution}
 use Rattle.proc_machine.specs.View.{control_of, frame_words_by}
@@ -51,7 +53,8 @@ param_count_of (x ∷ xs) h =
     let b = both (is_none x.length) (list_all (λ (x : Variable). is_none x.length) xs) h in
     by x.array_param x.length b.0 (param_count_of xs b.1)
   where
-    by : (a : Bool) (o : Option ℕ) → is_none o ≡ true → length (operands_of xs) ≡ words_of_all xs → length {A = Operand} (elim a [ true ↦ valid.ArrayPlace ∷ valid.ArrayLength ∷ operands_of xs | false ↦ Value ∷ operands_of xs ]) ≡ (if a then 2 else unwrap_or o 1) + words_of_all xs
+    by : (a : Bool) (o : Option ℕ) → is_none o ≡ true → length (operands_of xs) ≡ words_of_all xs
+        → length {A = Operand} (elim a [ true ↦ valid.ArrayPlace ∷ valid.ArrayLength ∷ operands_of xs | false ↦ Value ∷ operands_of xs ]) ≡ (if a then 2 else unwrap_or o 1) + words_of_all xs
     by true o n h = omega (arith, h)
     by false None n h = omega (arith, h)
     by false (Some k) n h = cc
@@ -94,7 +97,8 @@ module _ (code : Code) (within : IsTrue (is_within code)) where
   seven = (both (few && main_is && short_texts && few_words && laid && whole && no_params) (list_all is_fit_function code.functions) within).0
 
   four : (few && main_is && short_texts && few_words) ≡ true
-  four = (both (few && main_is && short_texts && few_words) laid (both (few && main_is && short_texts && few_words && laid) whole (both (few && main_is && short_texts && few_words && laid && whole) no_params seven).0).0).0
+  four = (both (few && main_is && short_texts && few_words) laid
+      (both (few && main_is && short_texts && few_words && laid) whole (both (few && main_is && short_texts && few_words && laid && whole) no_params seven).0).0).0
 
   pub globals_few : length code.globals ≤ 65536
   globals_few = leb-true (length code.globals) 65536 (both (few && main_is && short_texts) few_words four).1
@@ -137,12 +141,14 @@ module _ (code : Code) (within : IsTrue (is_within code)) where
     frame_is = eqb-true f.frame_words (words_of_all f.slots) (both (has_params && locals_plain && slots_laid && params_sum) frame_sum five).1
 
     pub slots_are : slots_laid ≡ true
-    slots_are = (both (has_params && locals_plain) slots_laid (both (has_params && locals_plain && slots_laid) params_sum (both (has_params && locals_plain && slots_laid && params_sum) frame_sum five).0).0).1
+    slots_are = (both (has_params && locals_plain) slots_laid
+        (both (has_params && locals_plain && slots_laid) params_sum (both (has_params && locals_plain && slots_laid && params_sum) frame_sum five).0).0).1
 
     pub params_are : length (operands_of (params_of f)) ≡ f.param_words
     params_are =
         param_count_of (params_of f) (both (has_params && locals_plain && slots_laid && params_sum && frame_sum) plain fit).1
-        ∙ sym (eqb-true f.param_words (words_of_all (params_of f)) (both (has_params && locals_plain && slots_laid) params_sum (both (has_params && locals_plain && slots_laid && params_sum) frame_sum five).0).1)
+        ∙ sym (eqb-true f.param_words (words_of_all (params_of f))
+        (both (has_params && locals_plain && slots_laid) params_sum (both (has_params && locals_plain && slots_laid && params_sum) frame_sum five).0).1)
 
 -- ---- every instruction
 
@@ -225,7 +231,8 @@ module _ (code : Code) (count me : ℕ) (e : Execution) (holds : Holds code e) w
   pub there : (x : Placed) × (slice_get (steps_of code e.frame.function) pc ≡ Some x)
   there = by (slice_get f.steps pc) (at.here.find 1) refl
     where
-      by : (o : Option Placed) → IsTrue (follows_if_any code f o pc kinds (λ q t. finds code f 0 q t)) → slice_get f.steps pc ≡ o → (x : Placed) × (slice_get (steps_of code e.frame.function) pc ≡ Some x)
+      by : (o : Option Placed) → IsTrue (follows_if_any code f o pc kinds (λ q t. finds code f 0 q t)) → slice_get f.steps pc ≡ o
+          → (x : Placed) × (slice_get (steps_of code e.frame.function) pc ≡ Some x)
       by None h g = let no : false ≡ true = h in cc
       by (Some x) h g = (x, ap (λ l. slice_get l pc) steps_are ∙ g)
 
@@ -316,7 +323,8 @@ module _ (code : Code) (count me : ℕ) (e : Execution) (holds : Holds code e) w
   finds_what (instr.Send words) entered is h =
       let sized = nat_le 1 words && nat_le words 8 in
       let takes : ℕ → Bool = λ n. taking (values (words + 2)) kinds (λ t. Goes n (pc + 1) (Value ∷ t)) in
-      as_needed (instr.Send words) (many_words (values (words + 2)) (words + 2) (λ n t. Goes n (pc + 1) (Value ∷ t)) (values_words (words + 2)) (length_values (words + 2)) (λ n. (both sized (takes n) (h n)).1)) (λ j. refl) (both sized (takes 0) (h 0)).0
+      as_needed (instr.Send words) (many_words (values (words + 2)) (words + 2) (λ n t. Goes n (pc + 1) (Value ∷ t)) (values_words (words + 2)) (length_values (words + 2))
+      (λ n. (both sized (takes n) (h n)).1)) (λ j. refl) (both sized (takes 0) (h 0)).0
   finds_what instr.Receive entered is h = as_needed instr.Receive (one_word (λ n t. Goes n (pc + 1) (Value ∷ t)) h) (λ j. refl) refl
   finds_what instr.Word entered is h = as_needed instr.Word (one_word (λ n t. Goes n (pc + 1) (Value ∷ t)) h) (λ j. refl) refl
   finds_what instr.Words entered is h = as_needed instr.Words (no_words own) (λ j. refl) refl
@@ -357,16 +365,16 @@ module _ (code : Code) (count me : ℕ) (e : Execution) (holds : Holds code e) w
       let most = adds_most x.instr in
       let low = at.low in
       let inside = below_length (steps_of code e.frame.function) pc x is in
-      let room = holds.room e.frame.function in
-      let narrow = holds.narrow in
+      let room = holds.room e.frame.function pc inside in
+      let short = holds.short e.frame.function in
       let near = near_is x.instr (it_names x is) in
       let size : frame_words_by (slice_get code.functions e.frame.function) ≡ f.frame_words = ap frame_words_by at.here.here in
       let fits = holds.frames.0 in
       record {
         some = w.0;
         words = w.1;
-        room = omega (arith, most, low, inside, room);
-        onward = omega (arith, inside, room, narrow);
+        room = omega (arith, most, low, room);
+        onward = omega (arith, inside, short);
         named = w.2;
         near = omega (arith, near, size, fits);
       }

@@ -16,7 +16,8 @@ module _ (code : Code) (count me : ℕ) where
       let z : suc n + m ≡ suc (n + m) = omega arith in
       ap (λ k. exec code count me k c s) z ∙ by (step code count me c s) (λ x v f. exec_more n x v d u m f) e
     where
-      by : (o : Outcome Control) → ((x : Control) (v : State) → exec code count me n x v ≡ Done d u → exec code count me (n + m) x v ≡ exec code count me m d u) → then_on o (exec code count me n) ≡ Done d u → then_on o (exec code count me (n + m)) ≡ exec code count me m d u
+      by : (o : Outcome Control) → ((x : Control) (v : State) → exec code count me n x v ≡ Done d u → exec code count me (n + m) x v ≡ exec code count me m d u)
+          → then_on o (exec code count me n) ≡ Done d u → then_on o (exec code count me (n + m)) ≡ exec code count me m d u
       by (Done x v) k e = k x v e
       by (Stopped status v) k e = cc
 

@@ -1,5 +1,6 @@
 -- Sends, receives and prints stand before their events, or before a fault.
-use Rattle.std.proofs.Common.{◌≡◌, ℕ, zero, suc, ◌+◌, ◌-◌, ◌<◌, ◌≤◌, ◌^◌, get_or, Bool, true, false, List, [], ◌∷◌, ◌++◌, length, take, drop, reverse, refl, sym, ap, ◌∙◌, subst, arith, rules, tests, Vec, Global, Ok, lit<}
+use Rattle.std.proofs.Common.{◌≡◌, ℕ, zero, suc, ◌+◌, ◌-◌, ◌<◌, ◌≤◌, ◌^◌, get_or, Bool, true, false, List, [], ◌∷◌, ◌++◌}
+use Rattle.std.proofs.Common.{length, take, drop, reverse, refl, sym, ap, ◌∙◌, subst, arith, rules, tests, Vec, Global, Ok, lit<}
 use Rattle.std.proofs.lemmas.Bool.{ltb-true, leb-true}
 use Rattle.std.specs.Prelude.{IsTrue, nat_lt, nat_le, ◌&&◌, slice_index}
 use Rattle.std.proofs.lemmas.List.{append-nil, reverse-append, length-reverse, length-take, get_or-reverse}
@@ -81,7 +82,8 @@ module _ (e : Execution) where
         let lt : words + 1 < length own = omega (arith, few) in
         let lt2 : words < length own = omega (arith, few) in
         taken_off (words + 2) own few
-        ∙ ap (λ (l : List ℕ). (l, drop (words + 2) own)) (ap (λ k. reverse (take k own)) n ∙ reverse_one own (words + 1) lt ∙ ap (λ l. dest ∷ l) (ap (λ k. reverse (take k own)) m ∙ reverse_one own words lt2 ∙ ap (λ l. chan ∷ l) letter_words.2))
+        ∙ ap (λ (l : List ℕ). (l, drop (words + 2) own)) (ap (λ k. reverse (take k own)) n ∙ reverse_one own (words + 1) lt
+        ∙ ap (λ l. dest ∷ l) (ap (λ k. reverse (take k own)) m ∙ reverse_one own words lt2 ∙ ap (λ l. chan ∷ l) letter_words.2))
 
     abbrev test : Bool
     test = nat_lt dest count && nat_lt chan 32
@@ -103,7 +105,8 @@ module _ (e : Execution) where
     pub send_faults : test ≡ false → Pauses sending e (pause.Fault Address)
     send_faults h =
         subst (λ run. Pauses run e (pause.Fault Address)) (sym sending_is)
-        (subst (λ b. Pauses (push c (drop (words + 2) own) (sent_if b dest chan whole)) e (pause.Fault Address)) (sym h) (record { stops = λ events. refl; next_is = λ events. refl; last = λ events. refl }))
+        (subst (λ b. Pauses (push c (drop (words + 2) own) (sent_if b dest chan whole)) e (pause.Fault Address)) (sym h)
+        (record { stops = λ events. refl; next_is = λ events. refl; last = λ events. refl }))
 
     letter_is : words ≤ 8 → whole ≡ reverse (take words own)
     letter_is most =
@@ -122,14 +125,17 @@ module _ (e : Execution) where
     abbrev kind_sent : Kind
     kind_sent = Sent e.sent (record { no = dest }) chan words (padded (reverse (take words own)))
 
-    send_done : words ≤ 8 → test ≡ true → (events : List Kind) → sending (data_with e events 1) ≡ Done (next c (0 ∷ drop (words + 2) own)) (record (data_with e (kind_sent ∷ events) 0) { sent = e.sent + 1 })
+    send_done : words ≤ 8 → test ≡ true → (events : List Kind)
+        → sending (data_with e events 1) ≡ Done (next c (0 ∷ drop (words + 2) own)) (record (data_with e (kind_sent ∷ events) 0) { sent = e.sent + 1 })
     send_done most h events =
         ap (λ (run : Run Control). run (data_with e events 1)) sending_is
         ∙ ap (λ b. push c (drop (words + 2) own) (sent_if b dest chan whole) (data_with e events 1)) h
         ∙ ap (λ n. Done (next c (0 ∷ drop (words + 2) own)) (record (data_with e (Sent e.sent (record { no = dest }) chan n (padded whole) ∷ events) 0) { sent = e.sent + 1 })) (whole_length most)
         ∙ ap (λ l. Done (next c (0 ∷ drop (words + 2) own)) (record (data_with e (Sent e.sent (record { no = dest }) chan words (padded l) ∷ events) 0) { sent = e.sent + 1 })) (letter_is most)
 
-    pub send_makes : (code : Code) (new : Execution) (letter : Letter) → words ≤ 8 → test ≡ true → letter.id.number ≡ e.sent → letter.dest.no ≡ dest → letter.chan ≡ chan → letter.len ≡ words → letter.words ≡ padded (reverse (take words own)) → new ≡ given (words + 2) (Ok 0) (record e { sent = e.sent + 1 }) → ((events : List Kind) → sending (data_with e events 1) ≡ Done (control_of new) (data_with new (sent_by letter ∷ events) 0)) × Keeps code (instr.Send words) e new
+    pub send_makes : (code : Code) (new : Execution) (letter : Letter) → words ≤ 8 → test ≡ true → letter.id.number ≡ e.sent → letter.dest.no ≡ dest → letter.chan ≡ chan → letter.len ≡ words
+        → letter.words ≡ padded (reverse (take words own)) → new ≡ given (words + 2) (Ok 0) (record e { sent = e.sent + 1 })
+        → ((events : List Kind) → sending (data_with e events 1) ≡ Done (control_of new) (data_with new (sent_by letter ∷ events) 0)) × Keeps code (instr.Send words) e new
     send_makes code new letter most h number to on len ws is =
         let same : kind_sent ≡ sent_by letter =
         ap (λ n. Sent n (record { no = dest }) chan words (padded (reverse (take words own)))) (sym number)
@@ -175,12 +181,15 @@ module _ (e : Execution) where
           last = λ events. ap (λ b. push c (drop n own) (printed_if b bytes) (data_with e events 1)) h;
         })
 
-    print_done : room ≡ true → (events : List Kind) → printing (data_with e events 1) ≡ Done (next c (length bytes ∷ drop n own)) (record (data_with e (Printed (length bytes) ∷ events) 0) { output = e.output.items ++ bytes })
+    print_done : room ≡ true → (events : List Kind)
+        → printing (data_with e events 1) ≡ Done (next c (length bytes ∷ drop n own)) (record (data_with e (Printed (length bytes) ∷ events) 0) { output = e.output.items ++ bytes })
     print_done h events =
         ap (λ (run : Run Control). run (data_with e events 1)) printing_is
         ∙ ap (λ b. push c (drop n own) (printed_if b bytes) (data_with e events 1)) h
 
-    pub print_makes : (code : Code) (number : ℕ) (new : Execution) (out : Vec ℕ Global) (len : ℕ) → room ≡ true → len < 2 ^ 32 → len ≡ length bytes → out.items ≡ e.output.items ++ bytes → new ≡ given n (Ok len) (record e { output = out }) → ((events : List Kind) → printing (data_with e events 1) ≡ Done (control_of new) (data_with new (Printed len ∷ events) 0)) × Keeps code (instr.Print number) e new
+    pub print_makes : (code : Code) (number : ℕ) (new : Execution) (out : Vec ℕ Global) (len : ℕ) → room ≡ true → len < 2 ^ 32 → len ≡ length bytes → out.items ≡ e.output.items ++ bytes
+        → new ≡ given n (Ok len) (record e { output = out })
+        → ((events : List Kind) → printing (data_with e events 1) ≡ Done (control_of new) (data_with new (Printed len ∷ events) 0)) × Keeps code (instr.Print number) e new
     print_makes code number new out len h small is items same = (
       λ events.
           print_done h events

@@ -21,7 +21,7 @@ use Rattle.proc_machine.specs.View.{control_of, data_with}
 use Rattle.proc_machine.specs.Run.{Reaches, StandsBefore}
 use Rattle.proc_machine.specs.Standing.{IsTooLarge, IsKept, shown_state, stand, ComesTo}
 use Rattle.proc_machine.proofs.Running.{exec_more}
-use Rattle.proc_machine.proofs.Sets.{Outcome-set, Status-set, Pause-set}
+use Rattle.proc_machine.proofs.Sets.{Outcome-set, Status-set}
 
 module _ (code : Code) (count me : ℕ) where
   abbrev pub run : List Message → ℕ → ℕ → Outcome Control
@@ -47,7 +47,8 @@ module _ (code : Code) (count me : ℕ) where
         ap (λ x. Done x (more s)) place ∙ ap (λ x. Done d (more x)) same
     exec_further (suc n) c s d u e = by (step code count me c s) refl (λ x v f. exec_further n x v d u f) e
       where
-        by : (o : Outcome Control) → step code count me c s ≡ o → ((x : Control) (v : State) → exec code count me n x v ≡ Done d u → exec code count me n x (more v) ≡ Done d (more u)) → then_on o (exec code count me n) ≡ Done d u → then_on (step code count me c (more s)) (exec code count me n) ≡ Done d (more u)
+        by : (o : Outcome Control) → step code count me c s ≡ o → ((x : Control) (v : State) → exec code count me n x v ≡ Done d u → exec code count me n x (more v) ≡ Done d (more u))
+            → then_on o (exec code count me n) ≡ Done d u → then_on (step code count me c (more s)) (exec code count me n) ≡ Done d (more u)
         by (Done x v) f k e = ap (λ o. then_on o (exec code count me n)) (step_more code count me 1 letters c s x v f) ∙ k x v e
         by (Stopped status v) f k e = cc
 
@@ -65,13 +66,17 @@ module _ (code : Code) (count me : ℕ) where
     one_more : (k : ℕ) → k + 1 ≡ suc k
     one_more k = omega arith
 
-    begun_further : (f : FunctionCode) (b : Bool) (inputs : List Message) (k n : ℕ) (d : Control) (u : State) → then_on (begun_by f b (first_data code count me inputs k)) (exec code count me n) ≡ Done d u → then_on (begun_by f b (first_data code count me (inputs ++ letters) (suc k))) (exec code count me n) ≡ Done d (more u)
+    begun_further : (f : FunctionCode) (b : Bool) (inputs : List Message) (k n : ℕ) (d : Control) (u : State)
+        → then_on (begun_by f b (first_data code count me inputs k)) (exec code count me n) ≡ Done d u
+        → then_on (begun_by f b (first_data code count me (inputs ++ letters) (suc k))) (exec code count me n) ≡ Done d (more u)
     begun_further f true inputs k n d u e =
         ap (λ j. exec code count me n start (new_frame code.main f.line f.frame_words [] (first_data code count me (inputs ++ letters) j))) (sym (one_more k))
         ∙ exec_further n start (new_frame code.main f.line f.frame_words [] (first_data code count me inputs k)) d u e
     begun_further f false inputs k n d u e = absurd (never_begun f n k inputs d u e)
 
-    main_further : (o : Option FunctionCode) (inputs : List Message) (k n : ℕ) (d : Control) (u : State) → then_on (started_by code count me o (first_data code count me inputs k)) (exec code count me n) ≡ Done d u → then_on (started_by code count me o (first_data code count me (inputs ++ letters) (suc k))) (exec code count me n) ≡ Done d (more u)
+    main_further : (o : Option FunctionCode) (inputs : List Message) (k n : ℕ) (d : Control) (u : State)
+        → then_on (started_by code count me o (first_data code count me inputs k)) (exec code count me n) ≡ Done d u
+        → then_on (started_by code count me o (first_data code count me (inputs ++ letters) (suc k))) (exec code count me n) ≡ Done d (more u)
     main_further None inputs k n d u e =
         ap (λ j. exec code count me n start (first_data code count me (inputs ++ letters) j)) (sym (one_more k)) ∙ exec_further n start (first_data code count me inputs k) d u e
     main_further (Some f) inputs k n d u e = begun_further f (nat_le (length code.globals + f.frame_words) 65536) inputs k n d u e
@@ -123,14 +128,16 @@ module _ (code : Code) (count me : ℕ) where
   Comes e b n inputs events = ComesTo code count me e b n inputs events
 
   -- with no more events it stops there
-  record_of : (inputs : List Message) (events : List Kind) (status : Status) (s : State) (n : ℕ) → run inputs (length events) n ≡ Stopped status s → (steps : ℕ) × (run inputs (length events) steps ≡ Stopped status s)
+  record_of : (inputs : List Message) (events : List Kind) (status : Status) (s : State) (n : ℕ) → run inputs (length events) n ≡ Stopped status s
+      → (steps : ℕ) × (run inputs (length events) steps ≡ Stopped status s)
   record_of inputs events status s n h = (n, h)
 
   module _ (e : Execution) (inputs : List Message) (events : List Kind) where
     abbrev pub Stops : Bool → Pause → Type 0
     Stops b n = (steps : ℕ) × (run inputs (length events) steps ≡ Stopped (status_of n) (shown_state code count me e b events))
 
-    stops_begun : (n : Pause) → (steps : ℕ) → run inputs (length events) steps ≡ Done (control_of e) (data_with e events 0) → step code count me (control_of e) (data_with e events 0) ≡ Stopped (status_of n) (shown_state code count me e true events) → Stops true n
+    stops_begun : (n : Pause) → (steps : ℕ) → run inputs (length events) steps ≡ Done (control_of e) (data_with e events 0)
+        → step code count me (control_of e) (data_with e events 0) ≡ Stopped (status_of n) (shown_state code count me e true events) → Stops true n
     stops_begun n steps h s = (steps + 1, one_step inputs (length events) steps (control_of e) (data_with e events 0) h ∙ s)
 
     pub stops : (b : Bool) (n : Pause) → Kept e b n → Comes e b n inputs events → Stops b n
@@ -139,24 +146,13 @@ module _ (code : Code) (count me : ℕ) where
     stops true n k c = stops_begun n c.steps c.comes (∥∥₁_elim k (Outcome-set _ _) (λ h. h.1.stops events))
     stops false n k c = (c.steps, c.comes ∙ ap (λ x. Stopped x (shown_state code count me e false events)) (∥∥₁_elim k (Status-set _ _) (λ h. ap status_of (sym h.0))))
 
-    abbrev pub MakesIt : Pause → Type 0
-    MakesIt n = (steps : ℕ) × (pause_by (run inputs (suc (length events)) steps) ≡ Some n)
-
-    pub makes_begun : (n : Pause) → (steps : ℕ) → run inputs (length events) steps ≡ Done (control_of e) (data_with e events 0) → pause_by (step code count me (control_of e) (data_with e events 1)) ≡ Some n → MakesIt n
-    makes_begun n steps h s =
+    -- with one more event the run takes the next step from there
+    pub one_further : (steps : ℕ) → run inputs (length events) steps ≡ Done (control_of e) (data_with e events 0)
+        → run inputs (suc (length events)) (steps + 1) ≡ step code count me (control_of e) (data_with e events 1)
+    one_further steps h =
         let further = run_further [] inputs (length events) steps (control_of e) (data_with e events 0) h in
         let none : inputs ++ [] ≡ inputs = append-nil inputs in
-        (steps + 1, ap pause_by (ap (λ l. run l (suc (length events)) (steps + 1)) (sym none) ∙ one_step (inputs ++ []) (suc (length events)) steps (control_of e) (data_with e events 1) further) ∙ s)
-
-    pub makes_large : (n : Pause) → Kept e false n → (n ≡ pause.Done → ⊥) → MakesIt n
-    makes_large n k not = (0, by n k not)
-      where
-        told : (m : Pause) → (m ≡ pause.Fault DataFull) × IsTooLarge code e → pause_by (run inputs (suc (length events)) 0) ≡ Some m
-        told m h = ap pause_by (large_ends e h.1 inputs (length events) 0) ∙ ap Some (sym h.0)
-
-        by : (m : Pause) → Kept e false m → (m ≡ pause.Done → ⊥) → pause_by (run inputs (suc (length events)) 0) ≡ Some m
-        by pause.Done k not = absurd (not refl)
-        by m k not = ∥∥₁_elim k (Pause-set _ _) (told m)
+        ap (λ l. run l (suc (length events)) (steps + 1)) (sym none) ∙ one_step (inputs ++ []) (suc (length events)) steps (control_of e) (data_with e events 1) further
 
   -- ---- after an event
 
@@ -195,10 +191,13 @@ module _ (code : Code) (count me : ℕ) where
     given_one = law.more 1 letters (data_with e events 0)
 
     there : run (inputs ++ letters) (suc (length events)) (c.steps + 1) ≡ step code count me (control_of e) given_one
-    there = one_step (inputs ++ letters) (suc (length events)) c.steps (control_of e) given_one (run_further letters inputs (length events) c.steps (control_of e) (data_with e events 0) (c.comes ∙ stand_is e n events not))
+    there = one_step (inputs ++ letters) (suc (length events)) c.steps (control_of e) given_one
+        (run_further letters inputs (length events) c.steps (control_of e) (data_with e events 0) (c.comes ∙ stand_is e n events not))
 
     -- an event, and the run to just before the next
-    pub goes_through : (k : Kind) (e2 e3 : Execution) (n3 : Pause) → step code count me (control_of e) given_one ≡ Done (control_of e2) (data_with e2 (k ∷ events) 0) → Reaches code count me (control_of e2) (data_with e2 (k ∷ events) 0) (control_of e3) (data_with e3 (k ∷ events) 0) → StandsBefore code count me e3 n3 → Comes e3 true n3 (inputs ++ letters) (k ∷ events)
+    pub goes_through : (k : Kind) (e2 e3 : Execution) (n3 : Pause) → step code count me (control_of e) given_one ≡ Done (control_of e2) (data_with e2 (k ∷ events) 0)
+        → Reaches code count me (control_of e2) (data_with e2 (k ∷ events) 0) (control_of e3) (data_with e3 (k ∷ events) 0) → StandsBefore code count me e3 n3
+        → Comes e3 true n3 (inputs ++ letters) (k ∷ events)
     goes_through k e2 e3 n3 h r stands = record {
       steps = c.steps + 1 + r.steps;
       comes =
@@ -224,11 +223,14 @@ module _ (code : Code) (count me : ℕ) where
   never_able s t h = cc
 
   -- the fault of a main that has no room
-  pub ends_large : (e : Execution) → IsTooLarge code e → (inputs : List Message) → Comes e false (pause.Fault DataFull) inputs [] → run inputs 1 0 ≡ Stopped Over (record (data_with e (kind.Faulted DataFull ∷ []) 0) { frames = [] })
+  pub ends_large : (e : Execution) → IsTooLarge code e → (inputs : List Message) → Comes e false (pause.Fault DataFull) inputs []
+      → run inputs 1 0 ≡ Stopped Over (record (data_with e (kind.Faulted DataFull ∷ []) 0) { frames = [] })
   ends_large e large inputs c =
-      let same : first_data code count me inputs 0 ≡ record (data_with e [] 0) { frames = [] } = stopped_same (first_data code count me inputs 0) (record (data_with e [] 0) { frames = [] }) (sym (large_stops e large inputs c.steps) ∙ c.comes) in
+      let same : first_data code count me inputs 0 ≡ record (data_with e [] 0) { frames = [] } = stopped_same (first_data code count me inputs 0) (record (data_with e [] 0) { frames = [] })
+      (sym (large_stops e large inputs c.steps) ∙ c.comes) in
       large_ends e large inputs 0 0 ∙ ap (λ (s : State). Stopped Over (record s { events = kind.Faulted DataFull ∷ [] })) same
 
   pub never_later : (e : Execution) → IsTooLarge code e → (inputs : List Message) (k : Kind) (events : List Kind) → Comes e false (pause.Fault DataFull) inputs (k ∷ events) → ⊥
   never_later e large inputs k events c =
-      never_able (record (first_data code count me inputs (length events)) { events = kind.Faulted DataFull ∷ [] }) (record (data_with e (k ∷ events) 0) { frames = [] }) (sym (large_ends e large inputs (length events) c.steps) ∙ c.comes)
+      never_able (record (first_data code count me inputs (length events)) { events = kind.Faulted DataFull ∷ [] }) (record (data_with e (k ∷ events) 0) { frames = [] })
+      (sym (large_ends e large inputs (length events) c.steps) ∙ c.comes)

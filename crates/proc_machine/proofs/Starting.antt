@@ -68,7 +68,7 @@ module _ (code : Code) (e : Execution) (fresh : IsFresh code e) (words : List �
           control = subst (λ (c : Control). IsSoundAt code c) (sym control_is) at_main;
           frames = (omega (arith, base, size, fits), subst (λ (k : List KeptCaller). CallersFit code k) (sym fresh.callers) tt);
           room = fresh.room;
-          narrow = fresh.narrow;
+          short = fresh.short;
         }
 
     by_room : (b : Bool) → b ≡ true → (k : Unit {0} → Run (Unit {0})) (j : Unit {0} → Run Control) (s : State) → then_on (then_on (demand b DataFull s) k) j ≡ then_on (k tt s) j
@@ -78,7 +78,8 @@ module _ (code : Code) (e : Execution) (fresh : IsFresh code e) (words : List �
     pub main_called : (count me : ℕ) → words ≡ code.globals ++ take h.frame_words ([] ++ replicate h.frame_words 0) → run_code code count me [] 0 0 ≡ Done (control_of new) (data_with new [] 0)
     main_called count me w =
         ap (λ o. then_on (started_by code count me o (first_data code count me [] 0)) (exec code count me 0)) is
-        ∙ ap (λ o. then_on o (exec code count me 0)) (by_room (nat_le (length code.globals + h.frame_words) 65536) (has_room (length code.globals + h.frame_words) 65536 fits) _ _ (first_data code count me [] 0))
+        ∙ ap (λ o. then_on o (exec code count me 0)) (by_room (nat_le (length code.globals + h.frame_words) 65536) (has_room (length code.globals + h.frame_words) 65536 fits) _ _
+        (first_data code count me [] 0))
         ∙ ap (λ l. Done start (record (data_at code.main h.line (length code.globals) [] None [] 0) { words = l })) (sym w)
         ∙ ap (λ c. Done c (data_at code.main h.line (length code.globals) [] None [] 0)) (sym control_is)
         ∙ ap (λ s. Done (control_of new) s) (sym (data_is h.line line_is))

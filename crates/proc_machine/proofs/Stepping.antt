@@ -1,6 +1,5 @@
 -- One step of an execution, and a run of many.
-use Rattle.std.proofs.Common.{◌≡◌, ℕ, suc, ◌+◌, ◌-◌, ◌*◌, ◌<◌, ◌≤◌, Bool, true, false, List, [], ◌∷◌, length, Option, Some, None, refl, sym, ap, ◌∙◌, subst, arith, mul-le-mul_right}
-use Rattle.std.proofs.Math.Nat.{suc-mul}
+use Rattle.std.proofs.Common.{◌^◌, ◌≡◌, ℕ, suc, ◌+◌, ◌-◌, ◌*◌, ◌<◌, ◌≤◌, Bool, true, false, List, [], ◌∷◌, length, Option, Some, None, refl, sym, ap, ◌∙◌, subst, arith}
 use Rattle.std.proofs.Math.Logic.{∥∥₁_elim, ∥∥₁_map}
 use Rattle.std.proofs.Props.{props}
 use Rattle.std.specs.Prelude.{IsTrue, option_map, slice_get, if◌then◌else◌}
@@ -106,11 +105,12 @@ module _ (code : Code) (count me : ℕ) (old new : Execution) (i : Instr) (is : 
       control =
           act_sound code count me holds.sound c holds.control (params_are code holds.within) i
           (x.entered, at_x ∙ ap (λ (j : Instr). Some (record { instr = j; entered = x.entered })) same_i)
-          (subst (λ (j : Instr). (n : ℕ) → IsTrue (follows code holds.control.here.function j old.frame.place holds.control.here.kinds (λ q t. finds code holds.control.here.function n q t))) same_i (it_follows code count me old holds x at_x))
+          (subst (λ (j : Instr). (n : ℕ) → IsTrue (follows code holds.control.here.function j old.frame.place holds.control.here.kinds (λ q t. finds code holds.control.here.function n q t))) same_i
+          (it_follows code count me old holds x at_x))
           (data_with old [] 0) (control_of new) (data_with new [] 0) (acts []) keeps.small;
       frames = keeps.frames holds.frames;
-      room = λ g. let r = holds.room g in let h = keeps.height in omega (arith, r, h);
-      narrow = let n = holds.narrow in let h = keeps.height in omega (arith, n, h);
+      room = λ g place inside. let r = holds.room g place inside in let h = keeps.height in omega (arith, r, h);
+      short = holds.short;
     }
 
     no_line : is_line i ≡ false
@@ -121,13 +121,13 @@ module _ (code : Code) (count me : ℕ) (old new : Execution) (i : Instr) (is : 
         by j h = refl
 
     abbrev far : ℕ
-    far = suc (length old.calls.callers * suc old.calls.height + (old.calls.height - old.frame.place))
+    far = suc (length old.calls.callers * suc (2 ^ 30) + (2 ^ 30 - old.frame.place))
 
     way_is : way code old ≡ far
     way_is = ap (λ (q : Option Placed). if is_line_at q then 0 else far) at_x ∙ ap (λ (j : Instr). if is_line j then 0 else far) same_i ∙ ap (λ b. if b then 0 else far) no_line
 
     abbrev far_new : ℕ
-    far_new = suc (length new.calls.callers * suc new.calls.height + (new.calls.height - new.frame.place))
+    far_new = suc (length new.calls.callers * suc (2 ^ 30) + (2 ^ 30 - new.frame.place))
 
     way_most : way code new ≤ far_new
     way_most = by (is_line_at (slice_get (steps_of code new.frame.function) new.frame.place))
@@ -142,12 +142,10 @@ module _ (code : Code) (count me : ℕ) (old new : Execution) (i : Instr) (is : 
         let b = callers_length old.calls.callers old.calls.outer in
         let d = callers_length new.calls.callers new.calls.outer in
         let same : length new.calls.callers ≡ length old.calls.callers = omega (arith, a, b, d) in
-        let height = keeps.height in
-        let product : length new.calls.callers * suc new.calls.height ≡ length old.calls.callers * suc old.calls.height = ap (λ k. k * suc new.calls.height) same ∙ ap (λ k. length old.calls.callers * suc k) height in
         let inside = is_there code count me old holds in
-        let room = holds.room old.frame.function in
+        let short = holds.short old.frame.function in
         let most = way_most in
-        omega (arith, product, height, lt, inside, room, most)
+        omega (arith, same, lt, inside, short, most)
     nearer_by holds (AtLine (line, entered, is)) =
         let none : way code new ≡ 0 = ap (λ (q : Option Placed). if is_line_at q then 0 else far_new) is in
         omega (arith, none)
@@ -155,12 +153,8 @@ module _ (code : Code) (count me : ℕ) (old new : Execution) (i : Instr) (is : 
         let b = callers_length old.calls.callers old.calls.outer in
         let d = callers_length new.calls.callers new.calls.outer in
         let fewer : suc (length new.calls.callers) ≤ length old.calls.callers = omega (arith, lt, b, d) in
-        let height = keeps.height in
-        let product : length new.calls.callers * suc new.calls.height ≡ length new.calls.callers * suc old.calls.height = ap (λ k. length new.calls.callers * suc k) height in
-        let more : suc (length new.calls.callers) * suc old.calls.height ≤ length old.calls.callers * suc old.calls.height = mul-le-mul_right (suc old.calls.height) fewer in
-        let one = suc-mul (length new.calls.callers) (suc old.calls.height) in
         let most = way_most in
-        omega (arith, product, more, one, height, most)
+        omega (arith, fewer, most)
 
     nearer : Holds code old → way code new < way code old
     nearer holds =
@@ -173,11 +167,13 @@ module _ (code : Code) (count me : ℕ) (old new : Execution) (i : Instr) (is : 
 
 -- ---- a step that makes no event, and one that would
 
-pub holds_by : (code : Code) (count me : ℕ) (old new : Execution) (i : Instr) (result : Option Pause) → ∥ Holds code old ∥₁ → option_map (λ (x : Placed). x.instr) (slice_get (steps_of code old.frame.function) old.frame.place) ≡ Some i → Moves code count me i old new result → ∥ Holds code new ∥₁
+pub holds_by : (code : Code) (count me : ℕ) (old new : Execution) (i : Instr) (result : Option Pause) → ∥ Holds code old ∥₁
+    → option_map (λ (x : Placed). x.instr) (slice_get (steps_of code old.frame.function) old.frame.place) ≡ Some i → Moves code count me i old new result → ∥ Holds code new ∥₁
 holds_by code count me old new i None h is m = ∥∥₁_map h (holds_on code count me old new i is m.0 m.1)
 holds_by code count me old new i (Some next) h is m = subst (λ (x : Execution). ∥ Holds code x ∥₁) (sym m.0) h
 
-pub steps_by : (code : Code) (count me : ℕ) (old new : Execution) (i : Instr) (result : Option Pause) → ∥ Holds code old ∥₁ → option_map (λ (x : Placed). x.instr) (slice_get (steps_of code old.frame.function) old.frame.place) ≡ Some i → Moves code count me i old new result → Steps code count me old new result
+pub steps_by : (code : Code) (count me : ℕ) (old new : Execution) (i : Instr) (result : Option Pause) → ∥ Holds code old ∥₁
+    → option_map (λ (x : Placed). x.instr) (slice_get (steps_of code old.frame.function) old.frame.place) ≡ Some i → Moves code count me i old new result → Steps code count me old new result
 steps_by code count me old new i None h is m = goes_on code count me old new i is m.0 m.1 h m.2
 steps_by code count me old new i (Some next) h is m = (m.0, stands code count me old new i is next m.1 m.2)
 
@@ -195,9 +191,10 @@ module _ (code : Code) (count me : ℕ) (old new : Execution) (i : Instr) (is : 
         control =
             act_sound code count me holds.sound (control_of old) holds.control (params_are code holds.within) i
             (x.0.entered, x.1 ∙ ap (λ (j : Instr). Some (record { instr = j; entered = x.0.entered })) x.2)
-            (subst (λ (j : Instr). (n : ℕ) → IsTrue (follows code holds.control.here.function j old.frame.place holds.control.here.kinds (λ q t. finds code holds.control.here.function n q t))) x.2 (it_follows code count me old holds x.0 x.1))
+            (subst (λ (j : Instr). (n : ℕ) → IsTrue (follows code holds.control.here.function j old.frame.place holds.control.here.kinds (λ q t. finds code holds.control.here.function n q t))) x.2
+            (it_follows code count me old holds x.0 x.1))
             s (control_of new) u acts keeps.small;
         frames = keeps.frames holds.frames;
-        room = λ g. let r = holds.room g in let k = keeps.height in omega (arith, r, k);
-        narrow = let n = holds.narrow in let k = keeps.height in omega (arith, n, k);
+        room = λ g place inside. let r = holds.room g place inside in let k = keeps.height in omega (arith, r, k);
+        short = holds.short;
       })

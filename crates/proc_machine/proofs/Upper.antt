@@ -53,20 +53,23 @@ module _ (xs : List ℕ) (n : ℕ) (h : n ≤ length xs) where
 
 -- ---- changes
 
-pub pushed_on : (xs : List ℕ) (x base limit : ℕ) → base ≤ length xs → stack_at (reverse (xs ++ x ∷ [])) base limit ≡ record { own = x ∷ upper base (reverse xs); outer = lower base (reverse xs); limit = limit }
+pub pushed_on : (xs : List ℕ) (x base limit : ℕ) → base ≤ length xs
+    → stack_at (reverse (xs ++ x ∷ [])) base limit ≡ record { own = x ∷ upper base (reverse xs); outer = lower base (reverse xs); limit = limit }
 pushed_on xs x base limit h =
     let r = reverse xs in
     let n : suc (length r) - base ≡ suc (length r - base) = omega (arith, length-reverse xs, h) in
     ap (λ l. stack_at l base limit) (reverse-append xs (x ∷ []))
     ∙ ap (λ m. record { own = take m (x ∷ r); outer = drop m (x ∷ r); limit = limit }) n
 
-pub cut_off : (xs : List ℕ) (n base limit : ℕ) → n ≤ length xs - base → base ≤ length xs → stack_at (reverse (take (length xs - n) xs)) base limit ≡ record { own = drop n (upper base (reverse xs)); outer = lower base (reverse xs); limit = limit }
+pub cut_off : (xs : List ℕ) (n base limit : ℕ) → n ≤ length xs - base → base ≤ length xs
+    → stack_at (reverse (take (length xs - n) xs)) base limit ≡ record { own = drop n (upper base (reverse xs)); outer = lower base (reverse xs); limit = limit }
 cut_off xs n base limit h b =
     let r = reverse xs in
     let len = length-reverse xs in
     let left : length (drop n r) - base ≡ length r - n - base = ap (λ m. m - base) (length-drop n r) in
     let most : n + (length r - n - base) ≡ length r - base = omega (arith, len, h, b) in
-    let own : take (length (drop n r) - base) (drop n r) ≡ drop n (take (length r - base) r) = ap (λ m. take m (drop n r)) left ∙ take_later (length r - n - base) n r ∙ ap (λ m. drop n (take m r)) most in
+    let own : take (length (drop n r) - base) (drop n r) ≡ drop n (take (length r - base) r) = ap (λ m. take m (drop n r)) left ∙ take_later (length r - n - base) n r
+    ∙ ap (λ m. drop n (take m r)) most in
     let outer : drop (length (drop n r) - base) (drop n r) ≡ drop (length r - base) r = ap (λ m. drop m (drop n r)) left ∙ drop_more (length r - n - base) n r ∙ ap (λ m. drop m r) most in
     ap (λ l. stack_at l base limit) (reverse_cut xs n (omega (arith, h, b)))
     ∙ ap (λ l. record { own = l; outer = drop (length (drop n r) - base) (drop n r); limit = limit }) own

@@ -1,6 +1,7 @@
 pub mod Callers
 pub mod Pauses
 pub mod Ready
+pub mod Heights
 pub mod Stacked
 pub mod View
 pub mod Sound

@@ -1,13 +1,14 @@
 -- What a machine stands for.
-use Rattle.std.specs.Prelude.{◌≡◌, ℕ, suc, ◌+◌, ◌-◌, ◌≤◌, List, [], ◌∷◌, ◌++◌, length, Some}
+use Rattle.std.specs.Prelude.{◌≡◌, ℕ, suc, ◌+◌, ◌-◌, ◌≤◌, List, [], ◌∷◌, ◌++◌, length, replicate, Option, Some, None}
 use Rattle.std.specs.Vec.{vec_len, vec_capacity}
 use Rattle.nm_base.specs.declared.kind.Kind.{Kind}
 use Rattle.nm_base.specs.declared.letter.ProcNo.{ProcNo}
 use Rattle.nm_base.specs.declared.kind.Kind.TheVariants as kind
 use Rattle.nm_base.specs.declared.letter.Letter.{Letter}
 use Rattle.nm_base.specs.Message.{Message, message_of}
-use Rattle.c_tree.specs.State.{State, Stopped}
+use Rattle.c_tree.specs.State.{State, Wants, Outcome, Stopped}
 use Rattle.c_tree.specs.State as state
+use Rattle.c_tree.specs.Play.{played_of}
 use Rattle.stack_code.specs.Code.{Code}
 use Rattle.stack_code.specs.Machine.{Caller, Control, run_code}
 use Rattle.stack_code.specs.View.{code_of}
@@ -15,7 +16,7 @@ use Rattle.proc_machine.specs.declared.machine.Machine.{Machine}
 use Rattle.proc_machine.specs.declared.machine.MachineFrame.{MachineFrame}
 use Rattle.proc_machine.specs.declared.pause.Pause.{Pause}
 use Rattle.proc_machine.specs.declared.pause.Pause.TheVariants as pause
-use Rattle.proc_machine.specs.Pauses.{status_of, pause_by, pause_of}
+use Rattle.proc_machine.specs.Pauses.{status_of, pause_of}
 use Rattle.proc_machine.specs.View.{control_of}
 use Rattle.proc_machine.specs.Standing.{ComesTo, shown_state}
 
@@ -49,14 +50,29 @@ letters_sent m = m.execution.sent
 
 -- ---- what comes next
 
--- A run with no more events stops with this pause's status in this state; one with one more event begins with the event for which it stands.
+-- A run with no more events stops with this pause's status in this state.
 pub record Expects (set : Setting) (inputs : List Message) (events : List Kind) (next : Pause) (s : State) : Type 0 where
   pub steps : ℕ
   pub stops : run_code set.code set.count set.me.no inputs (length events) steps ≡ Stopped (status_of next) s
 
+-- a run made these events and then one of this pause's kind, and may make no more
+pub record HasMade (events : List Kind) (next : Pause) (o : Outcome Control) : Type 0 where
+  pub made : Kind
+  pub fits : pause_of made ≡ next
+  pub events_are : (played_of o).state.events ≡ made ∷ events
+  pub none_left : (played_of o).state.left ≡ 0
+
+-- a run made these events, and stops at a receive on these channels
+pub record HasCome (events : List Kind) (channels : ℕ) (o : Outcome Control) : Type 0 where
+  pub state : State
+  pub waits : o ≡ Stopped (Wants channels) state
+  pub events_are : state.events ≡ events
+
+-- A run that may make one more event comes to where it has made this one, or to the receive.
 abbrev pub MakesNext : Setting → List Message → List Kind → Pause → Type 0
 MakesNext set inputs events pause.Done = Unit {0}
-MakesNext set inputs events next = (steps : ℕ) × (pause_by (run_code set.code set.count set.me.no inputs (suc (length events)) steps) ≡ Some next)
+MakesNext set inputs events (pause.Receive channels) = (steps : ℕ) × HasCome events channels (run_code set.code set.count set.me.no inputs (suc (length events)) steps)
+MakesNext set inputs events next = (steps : ℕ) × HasMade events next (run_code set.code set.count set.me.no inputs (suc (length events)) steps)
 
 -- ---- frames
 
@@ -102,3 +118,9 @@ pub record HasAccepted (old new : Machine) (set : ℕ) (letter : Letter) (made :
   pub stands : (inputs : List Message) (events : List Kind) → StandsFor old inputs events → StandsFor new (inputs ++ message_of letter ∷ []) (made ∷ events)
   pub setting : setting_of new ≡ setting_of old
   pub sent : letters_sent new ≡ letters_sent old
+
+-- the letter that an event of this process sends, if it sends one, before it is posted
+abbrev pub letter_sent : ProcNo → Kind → Option Letter
+letter_sent me (kind.Sent number dest chan len words) =
+    Some record { id = record { sender = me; number = number }; dest = dest; chan = chan; len = len; words = words; posted = 0; stamp = record { parts = replicate 32 0 } }
+letter_sent me k = None

@@ -1,5 +1,5 @@
 -- Running on to the next event.
-use Rattle.std.specs.Prelude.{◌≡◌, ℕ, suc, ◌+◌, ◌-◌, ◌*◌, ◌<◌, Bool, true, false, List, ◌∷◌, length, Option, Some, None, slice_get, option_map, IsTrue, if◌then◌else◌}
+use Rattle.std.specs.Prelude.{◌≡◌, ℕ, suc, ◌+◌, ◌-◌, ◌*◌, ◌<◌, ◌^◌, Bool, true, false, List, ◌∷◌, length, Option, Some, None, slice_get, option_map, IsTrue, if◌then◌else◌}
 use Rattle.nm_base.specs.declared.kind.Kind.{Kind}
 use Rattle.nm_base.specs.declared.kind.Kind.TheVariants as kind
 use Rattle.nm_base.specs.declared.letter.Letter.{Letter}
@@ -33,7 +33,8 @@ state_there code count me e events = filled (blocks_of code count me (control_of
 
 -- Where an event is the last one, the run is over with it.
 abbrev pub IsLastThere : Code → ℕ → ℕ → Execution → Pause → Type 0
-IsLastThere code count me e (pause.Fault cause) = (events : List Kind) → step code count me (control_of e) (data_with e events 1) ≡ Stopped Over (state_there code count me e (kind.Faulted cause ∷ events))
+IsLastThere code count me e (pause.Fault cause) = (events : List Kind) → step code count me (control_of e) (data_with e events 1) ≡ Stopped Over
+    (state_there code count me e (kind.Faulted cause ∷ events))
 IsLastThere code count me e (pause.End value) = (events : List Kind) → step code count me (control_of e) (data_with e events 1) ≡ Stopped Over (state_there code count me e (kind.Ended value ∷ events))
 IsLastThere code count me e next = Unit {0}
 
@@ -56,10 +57,10 @@ abbrev pub is_line_at : Option Placed → Bool
 is_line_at None = false
 is_line_at (Some x) = is_line x.instr
 
--- At a Line it is there. Before, it goes on to later places and to callers.
+-- At a Line it is there. Before, it goes on to later places, of which no function has 2 ^ 30, and to callers.
 abbrev pub way : Code → Execution → ℕ
 way code e =
-    if is_line_at (slice_get (steps_of code e.frame.function) e.frame.place) then 0 else suc (length e.calls.callers * suc e.calls.height + (e.calls.height - e.frame.place))
+    if is_line_at (slice_get (steps_of code e.frame.function) e.frame.place) then 0 else suc (length e.calls.callers * suc (2 ^ 30) + (2 ^ 30 - e.frame.place))
 
 pub record GoesOn (code : Code) (count me : ℕ) (old new : Execution) : Type 0 where
   pub goes : (events : List Kind) → step code count me (control_of old) (data_with old events 0) ≡ Done (control_of new) (data_with new events 0)

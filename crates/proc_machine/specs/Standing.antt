@@ -1,5 +1,5 @@
 -- Where a machine stands in a run of the code.
-use Rattle.std.specs.Prelude.{◌≡◌, ℕ, ◌+◌, ◌*◌, ◌<◌, ◌≤◌, ◌^◌, Bool, true, false, List, [], length, Some, None, slice_get, nat_le, option_map}
+use Rattle.std.specs.Prelude.{◌≡◌, ℕ, ◌+◌, ◌<◌, ◌≤◌, ◌^◌, Bool, true, false, List, [], length, Some, None, slice_get, nat_le, option_map}
 use Rattle.nm_base.specs.declared.kind.Kind.{Kind}
 use Rattle.nm_base.specs.declared.kind.FaultCause.TheVariants.{DataFull}
 use Rattle.nm_base.specs.Message.{Message}
@@ -9,6 +9,7 @@ use Rattle.stack_code.specs.Machine.{Control, filled, blocks_of, run_code}
 use Rattle.proc_machine.specs.declared.execution.Execution.{Execution}
 use Rattle.proc_machine.specs.declared.pause.Pause.{Pause}
 use Rattle.proc_machine.specs.declared.pause.Pause.TheVariants as pause
+use Rattle.proc_machine.specs.Heights.{high}
 use Rattle.proc_machine.specs.View.{control_of, data_with}
 use Rattle.proc_machine.specs.Sound.{Holds}
 use Rattle.proc_machine.specs.Run.{StandsBefore}
@@ -26,8 +27,8 @@ pub record IsFresh (code : Code) (e : Execution) : Type 0 where
   pub letter : e.letter ≡ None
   pub output : e.output.items ≡ []
   pub sent : e.sent ≡ 0
-  pub room : (g : ℕ) → 2 * length (steps_of code g) ≤ e.calls.height
-  pub narrow : e.calls.height < 2 ^ 32
+  pub room : (g place : ℕ) → place < length (steps_of code g) → high code g place + 2 ≤ e.calls.height
+  pub short : (g : ℕ) → length (steps_of code g) < 2 ^ 30
 
 -- there is no room for a frame of main
 pub record IsTooLarge (code : Code) (e : Execution) : Type 0 where

@@ -8,6 +8,7 @@ mod calls;
 mod events;
 mod execute;
 mod execution;
+mod heights;
 mod machine;
 mod messages;
 mod onward;

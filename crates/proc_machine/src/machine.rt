@@ -31,17 +31,17 @@ pub struct MachineFrame {
 }
 
 impl<'c> Machine<'c> {
-    ghost use Rattle.std.specs.Prelude.{◌≡◌, ℕ, ◌+◌, ◌<◌, ◌≤◌, ◌^◌, List, [], ◌∷◌, ◌++◌, length, replicate, slice_get, slice_index, Some, option_map, IsTrue, true, IfOk, IfSome, OnOk};
+    ghost use Rattle.std.specs.Prelude.{◌≡◌, ℕ, ◌+◌, ◌<◌, ◌≤◌, ◌^◌, List, [], ◌∷◌, ◌++◌, length, slice_get, slice_index, Some, IsTrue, true, IfOk, OnOk};
     ghost use Rattle.nm_base.specs.declared.kind.Kind.{Kind};
     ghost use Rattle.nm_base.specs.declared.kind.Kind.TheVariants as kind;
     ghost use Rattle.nm_base.specs.Message.{Message, message_of};
-    ghost use Rattle.nm_base.specs.Scripts.{message_sent, is_last};
+    ghost use Rattle.nm_base.specs.Scripts.{is_last};
     ghost use Rattle.nm_base.specs.Channels.{has_channel};
     ghost use Rattle.proc_machine.specs.declared.pause.Pause.TheVariants as pause;
     ghost use Rattle.proc_machine.specs.Pauses.{pause_of};
     ghost use Rattle.proc_machine.specs.View.{sent_by};
     ghost use Rattle.proc_machine.specs.Standing.{goes_by_itself};
-    ghost use Rattle.proc_machine.specs.Machines.{StandsFor, Expects, MakesNext, IsSame, IsAdvanced, HasAccepted, setting_of, next_of, state_of, frames_of, spare_output, letters_sent};
+    ghost use Rattle.proc_machine.specs.Machines.{StandsFor, Expects, MakesNext, IsSame, IsAdvanced, HasAccepted, setting_of, next_of, state_of, frames_of, spare_output, letters_sent, letter_sent};
 
     /// A machine that runs the code as process `me` of `n`, just before its first event. It reserves
     /// the memory for data, frames and operands. Conditions: `me` is below `n`, and `n` is 1 to 32.
@@ -153,8 +153,7 @@ impl<'c> Machine<'c> {
         requires spare { 4096 ≤ spare_output self.old }
         requires few { letters_sent self.old + 1 < 2 ^ 32 }
         ensures made { IsAdvanced self.old self.new result.0 }
-        ensures letter { option_map message_of result.1 ≡ message_sent (setting_of self.old).me result.0 }
-        ensures unposted { IfSome result.1 (λ l. (l.posted ≡ 0) × (l.stamp.parts ≡ replicate 32 0)) }
+        ensures letter { result.1 ≡ letter_sent (setting_of self.old).me result.0 }
     {
         match self.next {
             Pause::Line { line } => (self.come_to_line(line), None),
@@ -208,8 +207,7 @@ impl<'c> Machine<'c> {
         requires waits { next_of self.old ≡ pause.Send }
         requires few { letters_sent self.old + 1 < 2 ^ 32 }
         ensures made { IsAdvanced self.old self.new (sent_by result) }
-        ensures named { result.id.sender ≡ (setting_of self.old).me }
-        ensures unposted { (result.posted ≡ 0) × (result.stamp.parts ≡ replicate 32 0) }
+        ensures letter { Some result ≡ letter_sent (setting_of self.old).me (sent_by result) }
     {
         let words = self.execution.words_to_send(self.setting);
         let (letter, next) = self.execution.go_past_send(self.setting, words);

@@ -8,6 +8,7 @@ ghost use Rattle.proc_machine.specs.Start.{IsCalled};
 use crate::call_stack::CallStack;
 use crate::callers::Frame;
 use crate::execution::Execution;
+use crate::heights::greatest_height;
 use crate::scratch::Scratch;
 use crate::words::{WORDS_LIMIT, Words};
 use nm_base::WantOfMemory;
@@ -22,11 +23,10 @@ impl Execution {
     pub(crate) fn fresh(alloc: Global, code: &Code) -> Result<Execution, WantOfMemory>
         ensures { IfOk result (IsFresh (code_of code.now)) }
     {
-        let longest = code.longest();
-        if longest >= LONGEST {
+        if code.longest() >= LONGEST {
             return Err(WantOfMemory);
         }
-        let calls = CallStack::with_room(alloc, 2 * longest)?;
+        let calls = CallStack::with_room(alloc, greatest_height(code))?;
         let words = Words::from_slice(alloc, code.globals())?;
         let scratch = Scratch::new(alloc)?;
         Ok(Execution {

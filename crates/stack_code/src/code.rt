@@ -166,6 +166,14 @@ impl Code {
         self.functions[function as usize].instrs[place as usize]
     }
 
+    /// How many instructions a function has; `function` is below `functions`.
+    pub fn steps(&self, function: u32) -> usize
+        requires { function < length (code_of self.now).functions }
+        ensures { result ≡ length (steps_of (code_of self.now) function) }
+    {
+        self.functions[function as usize].instrs.len()
+    }
+
     /// At least as many as any function has instructions.
     pub fn longest(&self) -> usize
         ensures { (f : ℕ) → length (steps_of (code_of self.now) f) ≤ result }

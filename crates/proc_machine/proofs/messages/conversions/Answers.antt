@@ -25,7 +25,8 @@ loop-byte-preserved c =
         omega (arith, v.1, w.count-is),
       )
       | else-not-after_percent+then-byte-ne37+else-not-is_conversion w ↦ (
-        is_one text i k whole lt (not_37 (get_or text i 0) w.if-byte-ne37.true) (sym w.is_conversion.ensures ∙ w.if-not-is_conversion.false) (v.0 ∙ ap (λ a. and_so_many k (conversions_from a (drop i text))) w.if-not-after_percent.false)
+        is_one text i k whole lt (not_37 (get_or text i 0) w.if-byte-ne37.true) (sym w.is_conversion.ensures ∙ w.if-not-is_conversion.false)
+            (v.0 ∙ ap (λ a. and_so_many k (conversions_from a (drop i text))) w.if-not-after_percent.false)
             ∙ ap (λ a. and_so_many (k + 1) (conversions_from a bs)) (sym w.after_percent-is)
             ∙ ap (λ n. and_so_many n (conversions_from c.if-not-after_percent.after_percent bs)) (sym w.count-is),
         omega (arith, v.1, w.count-is),

@@ -4,7 +4,8 @@ use Rattle.std.proofs.lemmas.List.{append-nil}
 use Rattle.c_tree.specs.Print.{converted, printed_from, later_values}
 use Rattle.proc_machine.proofs.Prints.{first_dropped, later_dropped, sign_begins, byte_is, sign_is, value_is, next_shown}
 use Rattle.proc_machine.proofs.printing.push_printed.Goals as goal
-use Rattle.proc_machine.proofs.printing.push_printed.Goals.{then-not-after_percent+then-byte-eq37, then-not-after_percent+else-byte-eq37, else-not-after_percent+then-byte-eq37-2, else-not-after_percent+else-byte-eq37-2}
+use Rattle.proc_machine.proofs.printing.push_printed.Goals.{then-not-after_percent+then-byte-eq37, then-not-after_percent+else-byte-eq37}
+use Rattle.proc_machine.proofs.printing.push_printed.Goals.{else-not-after_percent+then-byte-eq37-2, else-not-after_percent+else-byte-eq37-2}
 
 abbrev six : Bool → ℕ
 six x = if x then 6 else 0
@@ -48,7 +49,18 @@ loop-byte-preserved c =
           ∙ ap (λ k. (b ∷ []) ++ printed_from a2 bs (drop k vs)) (sym w.taken-is) in
           record {
             items = next_shown text vs c.loop-byte.out.items out2 ((b ∷ [])) whole i t t2 a a2 lt v.items rest (ap (λ o. o.items) w.out-is ∙ w.push_reserved.ensures.items);
-            room = omega (arith, v.room, ap (λ o. o.len) w.out-is, ap (λ o. o.cap) w.out-is, w.push_reserved.ensures.len, w.push_reserved.ensures.capacity, ap six w.after_percent-is, ap six w.if-not-after_percent.true, lt);
+            room = omega (
+              arith,
+              v.room,
+              ap (λ o. o.len) w.out-is,
+              ap
+                  (λ o. o.cap) w.out-is,
+              w.push_reserved.ensures.len,
+              w.push_reserved.ensures.capacity,
+              ap six w.after_percent-is,
+              ap six w.if-not-after_percent.true,
+              lt,
+            );
             capacity = ap (λ o. o.cap) w.out-is ∙ w.push_reserved.ensures.capacity ∙ v.capacity;
             few = omega (arith, v.few, w.taken-is);
           }
@@ -60,7 +72,19 @@ loop-byte-preserved c =
           ∙ ap (λ k. (b ∷ []) ++ printed_from a2 bs (drop k vs)) (sym w.taken-is) in
           record {
             items = next_shown text vs c.loop-byte.out.items out2 ((b ∷ [])) whole i t t2 a a2 lt v.items rest (ap (λ o. o.items) w.out-is ∙ w.push_reserved-then-byte-eq37-2.ensures.items);
-            room = omega (arith, v.room, ap (λ o. o.len) w.out-is, ap (λ o. o.cap) w.out-is, w.push_reserved-then-byte-eq37-2.ensures.len, w.push_reserved-then-byte-eq37-2.ensures.capacity, ap six w.after_percent-is, ap six w.if-not-after_percent.false, lt);
+            room = omega (
+              arith,
+              v.room,
+              ap (λ o. o.len) w.out-is,
+              ap
+                  (λ o. o.cap) w.out-is,
+              w.push_reserved-then-byte-eq37-2.ensures.len,
+              w.push_reserved-then-byte-eq37-2.ensures.capacity,
+              ap six w.after_percent-is,
+              ap six
+                  w.if-not-after_percent.false,
+              lt,
+            );
             capacity = ap (λ o. o.cap) w.out-is ∙ w.push_reserved-then-byte-eq37-2.ensures.capacity ∙ v.capacity;
             few = omega (arith, v.few, w.taken-is);
           }
@@ -74,7 +98,18 @@ loop-byte-preserved c =
           ∙ ap (λ k. converted b w.word_or_zero.result ++ printed_from a2 bs (drop k vs)) (sym w.taken-is) in
           record {
             items = next_shown text vs c.loop-byte.out.items out2 (converted b w.word_or_zero.result) whole i t t2 a a2 lt v.items rest (ap (λ o. o.items) w.out-is ∙ w.push_converted.ensures.items);
-            room = omega (arith, v.room, ap (λ o. o.len) w.out-is, ap (λ o. o.cap) w.out-is, w.push_converted.ensures.len, w.push_converted.ensures.capacity, ap six w.after_percent-is, ap six w.if-not-after_percent.false, lt);
+            room = omega (
+              arith,
+              v.room,
+              ap (λ o. o.len) w.out-is,
+              ap
+                  (λ o. o.cap) w.out-is,
+              w.push_converted.ensures.len,
+              w.push_converted.ensures.capacity,
+              ap six w.after_percent-is,
+              ap six w.if-not-after_percent.false,
+              lt,
+            );
             capacity = ap (λ o. o.cap) w.out-is ∙ w.push_converted.ensures.capacity ∙ v.capacity;
             few = omega (arith, v.few, w.taken-is);
           }

@@ -9,7 +9,8 @@ returns-in-Line c =
 
 pub returns-in-Push : goal.returns-in-Push
 returns-in-Push c =
-    moves_by (code_of c.args.at.code.now) c.args.at.count c.args.at.me.no c.args.instr (instr.Push c.in-Push.bits) c.args.self.now c.push_bits.new.self c.push_bits.result c.in-Push.is c.push_bits.ensures
+    moves_by (code_of c.args.at.code.now) c.args.at.count c.args.at.me.no c.args.instr
+    (instr.Push c.in-Push.bits) c.args.self.now c.push_bits.new.self c.push_bits.result c.in-Push.is c.push_bits.ensures
 
 pub returns-in-Drop : goal.returns-in-Drop
 returns-in-Drop c =
@@ -25,23 +26,28 @@ returns-in-Swap c =
 
 pub returns-in-GlobalPlace : goal.returns-in-GlobalPlace
 returns-in-GlobalPlace c =
-    moves_by (code_of c.args.at.code.now) c.args.at.count c.args.at.me.no c.args.instr (instr.GlobalPlace c.in-GlobalPlace.slot) c.args.self.now c.global_place.new.self c.global_place.result c.in-GlobalPlace.is c.global_place.ensures
+    moves_by (code_of c.args.at.code.now) c.args.at.count c.args.at.me.no c.args.instr
+    (instr.GlobalPlace c.in-GlobalPlace.slot) c.args.self.now c.global_place.new.self c.global_place.result c.in-GlobalPlace.is c.global_place.ensures
 
 pub returns-in-LocalPlace : goal.returns-in-LocalPlace
 returns-in-LocalPlace c =
-    moves_by (code_of c.args.at.code.now) c.args.at.count c.args.at.me.no c.args.instr (instr.LocalPlace c.in-LocalPlace.slot) c.args.self.now c.local_place.new.self c.local_place.result c.in-LocalPlace.is c.local_place.ensures
+    moves_by (code_of c.args.at.code.now) c.args.at.count c.args.at.me.no c.args.instr
+    (instr.LocalPlace c.in-LocalPlace.slot) c.args.self.now c.local_place.new.self c.local_place.result c.in-LocalPlace.is c.local_place.ensures
 
 pub returns-in-GlobalArray : goal.returns-in-GlobalArray
 returns-in-GlobalArray c =
-    moves_by (code_of c.args.at.code.now) c.args.at.count c.args.at.me.no c.args.instr (instr.GlobalArray c.in-GlobalArray.base c.in-GlobalArray.len) c.args.self.now c.global_array.new.self c.global_array.result c.in-GlobalArray.is c.global_array.ensures
+    moves_by (code_of c.args.at.code.now) c.args.at.count c.args.at.me.no c.args.instr
+    (instr.GlobalArray c.in-GlobalArray.base c.in-GlobalArray.len) c.args.self.now c.global_array.new.self c.global_array.result c.in-GlobalArray.is c.global_array.ensures
 
 pub returns-in-LocalArray : goal.returns-in-LocalArray
 returns-in-LocalArray c =
-    moves_by (code_of c.args.at.code.now) c.args.at.count c.args.at.me.no c.args.instr (instr.LocalArray c.in-LocalArray.base c.in-LocalArray.len) c.args.self.now c.local_array.new.self c.local_array.result c.in-LocalArray.is c.local_array.ensures
+    moves_by (code_of c.args.at.code.now) c.args.at.count c.args.at.me.no c.args.instr
+    (instr.LocalArray c.in-LocalArray.base c.in-LocalArray.len) c.args.self.now c.local_array.new.self c.local_array.result c.in-LocalArray.is c.local_array.ensures
 
 pub returns-in-ParamArray : goal.returns-in-ParamArray
 returns-in-ParamArray c =
-    moves_by (code_of c.args.at.code.now) c.args.at.count c.args.at.me.no c.args.instr (instr.ParamArray c.in-ParamArray.slot) c.args.self.now c.param_array.new.self c.param_array.result c.in-ParamArray.is c.param_array.ensures
+    moves_by (code_of c.args.at.code.now) c.args.at.count c.args.at.me.no c.args.instr
+    (instr.ParamArray c.in-ParamArray.slot) c.args.self.now c.param_array.new.self c.param_array.result c.in-ParamArray.is c.param_array.ensures
 
 pub returns-in-Load : goal.returns-in-Load
 returns-in-Load c =
@@ -57,11 +63,13 @@ returns-in-Jump c =
 
 pub returns-in-JumpZero : goal.returns-in-JumpZero
 returns-in-JumpZero c =
-    moves_by (code_of c.args.at.code.now) c.args.at.count c.args.at.me.no c.args.instr (instr.JumpZero c.in-JumpZero.target) c.args.self.now c.jump_zero.new.self c.jump_zero.result c.in-JumpZero.is c.jump_zero.ensures
+    moves_by (code_of c.args.at.code.now) c.args.at.count c.args.at.me.no c.args.instr
+    (instr.JumpZero c.in-JumpZero.target) c.args.self.now c.jump_zero.new.self c.jump_zero.result c.in-JumpZero.is c.jump_zero.ensures
 
 pub returns-in-Zero : goal.returns-in-Zero
 returns-in-Zero c =
-    moves_by (code_of c.args.at.code.now) c.args.at.count c.args.at.me.no c.args.instr (instr.Zero c.in-Zero.base c.in-Zero.len) c.args.self.now c.zero.new.self c.zero.result c.in-Zero.is c.zero.ensures
+    moves_by (code_of c.args.at.code.now) c.args.at.count c.args.at.me.no c.args.instr
+    (instr.Zero c.in-Zero.base c.in-Zero.len) c.args.self.now c.zero.new.self c.zero.result c.in-Zero.is c.zero.ensures
 
 pub returns-in-Call : goal.returns-in-Call
 returns-in-Call c =

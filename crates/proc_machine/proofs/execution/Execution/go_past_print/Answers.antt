@@ -9,8 +9,10 @@ pub print_bytes-bytes-requires-clause-ready : goal.print_bytes-bytes-requires-cl
 print_bytes-bytes-requires-clause-ready c = ready_by (code_of c.args.at.code.now) c.args.at.count c.args.at.me.no c.args.self.now (instr.Print c.args.text) c.requires.holds c.requires.there
 
 pub run-next-requires : goal.run-next-requires
-run-next-requires c = holds_made (code_of c.args.at.code.now) c.args.at.count c.args.at.me.no c.args.self.now c.print_bytes-bytes.new.self c.print_bytes-bytes.new.self (instr.Print c.args.text) c.requires.there (kind.Printed c.print_bytes-bytes.result) c.print_bytes-bytes.ensures.made c.requires.holds
+run-next-requires c = holds_made (code_of c.args.at.code.now) c.args.at.count c.args.at.me.no c.args.self.now c.print_bytes-bytes.new.self c.print_bytes-bytes.new.self
+    (instr.Print c.args.text) c.requires.there (kind.Printed c.print_bytes-bytes.result) c.print_bytes-bytes.ensures.made c.requires.holds
 
 pub returns-clause-after : goal.returns-clause-after
 returns-clause-after c =
-    after_by (code_of c.args.at.code.now) c.args.at.count c.args.at.me.no c.args.self.now c.print_bytes-bytes.new.self c.run-next.new.self (instr.Print c.args.text) c.requires.there (kind.Printed c.print_bytes-bytes.result) c.run-next.result c.print_bytes-bytes.ensures.made c.run-next.ensures.reaches c.run-next.ensures.stands
+    after_by (code_of c.args.at.code.now) c.args.at.count c.args.at.me.no c.args.self.now c.print_bytes-bytes.new.self c.run-next.new.self (instr.Print c.args.text) c.requires.there
+    (kind.Printed c.print_bytes-bytes.result) c.run-next.result c.print_bytes-bytes.ensures.made c.run-next.ensures.reaches c.run-next.ensures.stands

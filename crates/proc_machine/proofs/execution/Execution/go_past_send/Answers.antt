@@ -9,8 +9,10 @@ pub send_letter-letter-requires-clause-ready : goal.send_letter-letter-requires-
 send_letter-letter-requires-clause-ready c = ready_by (code_of c.args.at.code.now) c.args.at.count c.args.at.me.no c.args.self.now (instr.Send c.args.words) c.requires.holds c.requires.there
 
 pub run-next-requires : goal.run-next-requires
-run-next-requires c = holds_made (code_of c.args.at.code.now) c.args.at.count c.args.at.me.no c.args.self.now c.send_letter-letter.new.self c.send_letter-letter.new.self (instr.Send c.args.words) c.requires.there (sent_by c.send_letter-letter.result) c.send_letter-letter.ensures.made c.requires.holds
+run-next-requires c = holds_made (code_of c.args.at.code.now) c.args.at.count c.args.at.me.no c.args.self.now c.send_letter-letter.new.self c.send_letter-letter.new.self
+    (instr.Send c.args.words) c.requires.there (sent_by c.send_letter-letter.result) c.send_letter-letter.ensures.made c.requires.holds
 
 pub returns-clause-after : goal.returns-clause-after
 returns-clause-after c =
-    after_by (code_of c.args.at.code.now) c.args.at.count c.args.at.me.no c.args.self.now c.send_letter-letter.new.self c.run-next.new.self (instr.Send c.args.words) c.requires.there (sent_by c.send_letter-letter.result) c.run-next.result c.send_letter-letter.ensures.made c.run-next.ensures.reaches c.run-next.ensures.stands
+    after_by (code_of c.args.at.code.now) c.args.at.count c.args.at.me.no c.args.self.now c.send_letter-letter.new.self c.run-next.new.self (instr.Send c.args.words) c.requires.there
+    (sent_by c.send_letter-letter.result) c.run-next.result c.send_letter-letter.ensures.made c.run-next.ensures.reaches c.run-next.ensures.stands

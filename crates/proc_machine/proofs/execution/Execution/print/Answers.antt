@@ -9,7 +9,8 @@ use Rattle.proc_machine.proofs.execution.Execution.print.Goals as goal
 pub printed_length-length-requires-clause-words : goal.printed_length-length-requires-clause-words
 printed_length-length-requires-clause-words c =
     let own = c.args.self.now.calls.own in
-    let n : c.conversions.result ≡ conversions (unwrap_or (slice_get (code_of c.args.at.code.now).texts c.args.text) []) = c.conversions.ensures ∙ ap (λ o. conversions (unwrap_or o [])) (sym c.text-bytes.ensures) in
+    let n : c.conversions.result ≡ conversions (unwrap_or (slice_get (code_of c.args.at.code.now).texts c.args.text) []) = c.conversions.ensures
+    ∙ ap (λ o. conversions (unwrap_or o [])) (sym c.text-bytes.ensures) in
     let some : c.conversions.result ≤ length own = omega (arith, n, c.requires.some) in
     let words : (j : ℕ) → j < c.conversions.result → slice_index own j < 2 ^ 32 = λ j h. c.requires.words j (is_below j _ (omega (arith, h, n))) in
     λ k d _ lt.
@@ -29,8 +30,13 @@ returns-then-saturating_add-le-OUTPUT_LIMIT c =
     let is : c.text-bytes.result.now ≡ text = sym (ap (λ o. unwrap_or o []) c.text-bytes.ensures) in
     let n : c.conversions.result ≡ conversions text = c.conversions.ensures ∙ ap conversions is in
     let values : c.last-values.result.now ≡ reverse (take (conversions text) own) = c.last-values.ensures ∙ ap (λ k. reverse (take k own)) n in
-    let len : c.printed_length-length.result ≡ length (printed text (reverse (take (conversions text) own))) = c.printed_length-length.ensures ∙ ap length (printed_bytes c.text-bytes.result.now c.last-values.result.now (reverse (take (conversions text) own)) text values is) in
-    (refl, refl, print_pauses e text (conversions text) c.requires.some (has_room _ _ (omega (arith, len, c.if-saturating_add-le-OUTPUT_LIMIT.true, c.saturating_add.ensures, c.len.ensures, e.output.ok.0))))
+    let len : c.printed_length-length.result ≡ length (printed text (reverse (take (conversions text) own))) = c.printed_length-length.ensures
+    ∙ ap length (printed_bytes c.text-bytes.result.now c.last-values.result.now (reverse (take (conversions text) own)) text values is) in (
+      refl,
+      refl,
+      print_pauses e text (conversions text) c.requires.some
+          (has_room _ _ (omega (arith, len, c.if-saturating_add-le-OUTPUT_LIMIT.true, c.saturating_add.ensures, c.len.ensures, e.output.ok.0))),
+    )
 
 pub returns-else-saturating_add-le-OUTPUT_LIMIT : goal.returns-else-saturating_add-le-OUTPUT_LIMIT
 returns-else-saturating_add-le-OUTPUT_LIMIT c =
@@ -40,5 +46,10 @@ returns-else-saturating_add-le-OUTPUT_LIMIT c =
     let is : c.text-bytes.result.now ≡ text = sym (ap (λ o. unwrap_or o []) c.text-bytes.ensures) in
     let n : c.conversions.result ≡ conversions text = c.conversions.ensures ∙ ap conversions is in
     let values : c.last-values.result.now ≡ reverse (take (conversions text) own) = c.last-values.ensures ∙ ap (λ k. reverse (take k own)) n in
-    let len : c.printed_length-length.result ≡ length (printed text (reverse (take (conversions text) own))) = c.printed_length-length.ensures ∙ ap length (printed_bytes c.text-bytes.result.now c.last-values.result.now (reverse (take (conversions text) own)) text values is) in
-    (refl, refl, print_faults e text (conversions text) c.requires.some (no_room _ _ (omega (arith, len, c.if-saturating_add-le-OUTPUT_LIMIT.false, c.saturating_add.ensures, c.len.ensures, e.output.ok.0))))
+    let len : c.printed_length-length.result ≡ length (printed text (reverse (take (conversions text) own))) = c.printed_length-length.ensures
+    ∙ ap length (printed_bytes c.text-bytes.result.now c.last-values.result.now (reverse (take (conversions text) own)) text values is) in (
+      refl,
+      refl,
+      print_faults e text (conversions text) c.requires.some
+          (no_room _ _ (omega (arith, len, c.if-saturating_add-le-OUTPUT_LIMIT.false, c.saturating_add.ensures, c.len.ensures, e.output.ok.0))),
+    )

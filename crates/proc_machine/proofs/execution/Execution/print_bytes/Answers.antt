@@ -12,7 +12,8 @@ use Rattle.proc_machine.proofs.execution.Execution.print_bytes.Goals as goal
 pub push_printed-requires-clause-words : goal.push_printed-requires-clause-words
 push_printed-requires-clause-words c =
     let own = c.args.self.now.calls.own in
-    let n : c.conversions-count.result ≡ conversions (unwrap_or (slice_get (code_of c.args.at.code.now).texts c.args.text) []) = c.conversions-count.ensures ∙ ap (λ o. conversions (unwrap_or o [])) (sym c.text-bytes.ensures) in
+    let n : c.conversions-count.result ≡ conversions (unwrap_or (slice_get (code_of c.args.at.code.now).texts c.args.text) []) = c.conversions-count.ensures
+    ∙ ap (λ o. conversions (unwrap_or o [])) (sym c.text-bytes.ensures) in
     let some : c.conversions-count.result ≤ length own = omega (arith, n, c.requires.ready.some) in
     let words : (j : ℕ) → j < c.conversions-count.result → slice_index own j < 2 ^ 32 = λ j h. c.requires.ready.words j (is_below j _ (omega (arith, h, n))) in
     λ k d _ lt.

@@ -11,6 +11,7 @@ steps-preserved c =
     let f = c.step.new.self in
     record {
       holds = c.step.ensures.holds;
-      reaches = λ events. reaches_on (code_of c.args.at.code.now) c.args.at.count c.args.at.me.no (control_of e) (data_with e events 0) (control_of d) (data_with d events 0) (control_of f) (data_with f events 0) (c.steps.invariant.reaches events) (c.in_default.ensures.steps.goes events);
+      reaches = λ events. reaches_on (code_of c.args.at.code.now) c.args.at.count c.args.at.me.no (control_of e) (data_with e events 0) (control_of d) (data_with d events 0) (control_of f)
+          (data_with f events 0) (c.steps.invariant.reaches events) (c.in_default.ensures.steps.goes events);
       sent = c.in_default.ensures.steps.sent ∙ c.steps.invariant.sent;
     }

@@ -9,7 +9,8 @@ use Rattle.proc_machine.proofs.execution.Execution.run.Given as goal
 abbrev pub invariant-steps : goal.invariant-steps
 invariant-steps l = record {
   holds : ∥ Holds (code_of l.at.code.now) l.self ∥₁;
-  reaches : (events : List Kind) → Reaches (code_of l.at.code.now) l.at.count l.at.me.no (control_of l.initial.self) (data_with l.initial.self events 0) (control_of l.self) (data_with l.self events 0);
+  reaches : (events : List Kind)
+      → Reaches (code_of l.at.code.now) l.at.count l.at.me.no (control_of l.initial.self) (data_with l.initial.self events 0) (control_of l.self) (data_with l.self events 0);
   sent : l.self.sent ≡ l.initial.self.sent;
 }
 

@@ -18,5 +18,6 @@ returns-clause-made c =
       posted = 0;
       stamp = record { parts = replicate 32 0 };
     } in
-    send_makes e c.args.at.count c.args.words c.requires.ready.some bounds.0 (code_of c.args.at.code.now) c.give-value.new.self letter bounds.1 c.requires.addressed refl c.top.ensures c.top-2.ensures refl
+    send_makes e c.args.at.count c.args.words c.requires.ready.some bounds.0
+    (code_of c.args.at.code.now) c.give-value.new.self letter bounds.1 c.requires.addressed refl c.top.ensures c.top-2.ensures refl
     (c.padded.ensures ∙ ap padded c.last.ensures) c.give-value.ensures.state

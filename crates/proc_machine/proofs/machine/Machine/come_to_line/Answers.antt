@@ -20,13 +20,19 @@ go_past_line-self-requires-clause-there c =
 pub invariant_of-self : goal.invariant_of-self
 invariant_of-self c =
     let m = c.args.self.now in
-    record { kept = kept_on (code_of m.setting.code.now) m.setting.count m.setting.me.no m.execution c.go_past_line-self.new.self m.begun m.next c.go_past_line-self.result (subst (λ (y : Pause). leads (code_of m.setting.code.now) m.setting.count m.setting.me.no y ≡ true) (sym c.requires) refl) m.kept c.go_past_line-self.ensures.holds c.go_past_line-self.ensures.after.stands }
+    record {
+      kept = kept_on (code_of m.setting.code.now) m.setting.count m.setting.me.no m.execution c.go_past_line-self.new.self m.begun m.next c.go_past_line-self.result
+          (subst (λ (y : Pause). leads (code_of m.setting.code.now) m.setting.count m.setting.me.no y ≡ true) (sym c.requires) refl) m.kept c.go_past_line-self.ensures.holds
+          c.go_past_line-self.ensures.after.stands;
+    }
 
 pub returns-clause-made : goal.returns-clause-made
 returns-clause-made c =
     let m = c.args.self.now in
     record {
-      stands = λ inputs events s. after_comes (code_of m.setting.code.now) m.setting.count m.setting.me.no m.execution c.go_past_line-self.new.self m.begun m.next c.go_past_line-self.result (kind.Line c.args.line) (subst (λ (y : Pause). leads (code_of m.setting.code.now) m.setting.count m.setting.me.no y ≡ true) (sym c.requires) refl) m.kept c.go_past_line-self.ensures.after inputs events s;
+      stands = λ inputs events s. after_comes (code_of m.setting.code.now) m.setting.count m.setting.me.no m.execution c.go_past_line-self.new.self m.begun m.next c.go_past_line-self.result
+          (kind.Line c.args.line) (subst (λ (y : Pause). leads (code_of m.setting.code.now) m.setting.count m.setting.me.no y ≡ true) (sym c.requires) refl) m.kept c.go_past_line-self.ensures.after
+          inputs events s;
       fits = sym c.requires;
       setting = refl;
       sent = omega (arith, c.go_past_line-self.ensures.sent);

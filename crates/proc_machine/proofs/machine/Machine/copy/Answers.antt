@@ -10,11 +10,15 @@ invariant_of-result c =
     let m = c.args.self.now in
     let like = c.in_ok-execution.ensures in
     let e = c.in_ok-execution.execution in
-    record { kept = subst (λ (x : Execution). ∥ IsKept (code_of m.setting.code.now) m.setting.count m.setting.me.no x m.begun m.next ∥₁) (sym like.others) (kept_alike (code_of m.setting.code.now) m.setting.count m.setting.me.no m.execution e.output like.output m.begun m.next m.kept) }
+    record {
+      kept = subst (λ (x : Execution). ∥ IsKept (code_of m.setting.code.now) m.setting.count m.setting.me.no x m.begun m.next ∥₁) (sym like.others)
+          (kept_alike (code_of m.setting.code.now) m.setting.count m.setting.me.no m.execution e.output like.output m.begun m.next m.kept);
+    }
 
 pub returns-clause-stands : goal.returns-clause-stands
 returns-clause-stands c =
     let m = c.args.self.now in
     let like = c.in_ok-execution.ensures in
     let e = c.in_ok-execution.execution in
-    λ inputs events s. subst (λ (x : Execution). ComesTo (code_of m.setting.code.now) m.setting.count m.setting.me.no x m.begun m.next inputs events) (sym like.others) (comes_alike (code_of m.setting.code.now) m.setting.count m.setting.me.no m.execution e.output like.output m.begun m.next inputs events s)
+    λ inputs events s. subst (λ (x : Execution). ComesTo (code_of m.setting.code.now) m.setting.count m.setting.me.no x m.begun m.next inputs events) (sym like.others)
+    (comes_alike (code_of m.setting.code.now) m.setting.count m.setting.me.no m.execution e.output like.output m.begun m.next inputs events s)

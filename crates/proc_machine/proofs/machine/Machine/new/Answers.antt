@@ -10,7 +10,8 @@ invariant_of-result-2 c =
 pub returns-clause-stands : goal.returns-clause-stands
 returns-clause-stands c =
     let called = called_true (code_of c.args.code.now) c.in_ok-execution.execution c.call_main.new.self c.call_main.result c.if-not-call_main.false c.call_main.ensures in
-    begins (code_of c.args.code.now) c.args.n c.args.me.no c.call_main.new.self c.run-next.new.self c.run-next.result (called.1 c.args.n c.args.me.no) (c.run-next.ensures.reaches []) c.run-next.ensures.stands
+    begins (code_of c.args.code.now) c.args.n c.args.me.no c.call_main.new.self c.run-next.new.self c.run-next.result (called.1 c.args.n c.args.me.no)
+    (c.run-next.ensures.reaches []) c.run-next.ensures.stands
 
 pub returns-clause-sent : goal.returns-clause-sent
 returns-clause-sent c =

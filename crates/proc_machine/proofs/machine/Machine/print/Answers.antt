@@ -30,13 +30,19 @@ go_past_print-bytes-requires-clause-room c =
 pub invariant_of-self : goal.invariant_of-self
 invariant_of-self c =
     let m = c.args.self.now in
-    record { kept = kept_on (code_of m.setting.code.now) m.setting.count m.setting.me.no m.execution c.go_past_print-bytes.new.self m.begun m.next c.go_past_print-bytes.result.1 (subst (λ (y : Pause). leads (code_of m.setting.code.now) m.setting.count m.setting.me.no y ≡ true) (sym c.requires.waits) refl) m.kept c.go_past_print-bytes.ensures.holds c.go_past_print-bytes.ensures.after.stands }
+    record {
+      kept = kept_on (code_of m.setting.code.now) m.setting.count m.setting.me.no m.execution c.go_past_print-bytes.new.self m.begun m.next c.go_past_print-bytes.result.1
+          (subst (λ (y : Pause). leads (code_of m.setting.code.now) m.setting.count m.setting.me.no y ≡ true) (sym c.requires.waits) refl) m.kept c.go_past_print-bytes.ensures.holds
+          c.go_past_print-bytes.ensures.after.stands;
+    }
 
 pub returns-clause-made : goal.returns-clause-made
 returns-clause-made c =
     let m = c.args.self.now in
     record {
-      stands = λ inputs events s. after_comes (code_of m.setting.code.now) m.setting.count m.setting.me.no m.execution c.go_past_print-bytes.new.self m.begun m.next c.go_past_print-bytes.result.1 (kind.Printed c.go_past_print-bytes.result.0) (subst (λ (y : Pause). leads (code_of m.setting.code.now) m.setting.count m.setting.me.no y ≡ true) (sym c.requires.waits) refl) m.kept c.go_past_print-bytes.ensures.after inputs events s;
+      stands = λ inputs events s. after_comes (code_of m.setting.code.now) m.setting.count m.setting.me.no m.execution c.go_past_print-bytes.new.self m.begun m.next c.go_past_print-bytes.result.1
+          (kind.Printed c.go_past_print-bytes.result.0) (subst (λ (y : Pause). leads (code_of m.setting.code.now) m.setting.count m.setting.me.no y ≡ true) (sym c.requires.waits) refl) m.kept
+          c.go_past_print-bytes.ensures.after inputs events s;
       fits = sym c.requires.waits;
       setting = refl;
       sent = omega (arith, c.go_past_print-bytes.ensures.sent);

@@ -29,14 +29,20 @@ go_past_receive-self-requires-clause-some c =
 pub invariant_of-self : goal.invariant_of-self
 invariant_of-self c =
     let m = c.args.self.now in
-    record { kept = kept_on (code_of m.setting.code.now) m.setting.count m.setting.me.no m.execution c.go_past_receive-self.new.self m.begun m.next c.go_past_receive-self.result (subst (λ (y : Pause). leads (code_of m.setting.code.now) m.setting.count m.setting.me.no y ≡ true) (sym c.requires) refl) m.kept c.go_past_receive-self.ensures.holds c.go_past_receive-self.ensures.after.stands }
+    record {
+      kept = kept_on (code_of m.setting.code.now) m.setting.count m.setting.me.no m.execution c.go_past_receive-self.new.self m.begun m.next c.go_past_receive-self.result
+          (subst (λ (y : Pause). leads (code_of m.setting.code.now) m.setting.count m.setting.me.no y ≡ true) (sym c.requires) refl) m.kept c.go_past_receive-self.ensures.holds
+          c.go_past_receive-self.ensures.after.stands;
+    }
 
 pub returns : goal.returns
 returns c =
     let m = c.args.self.now in
     record {
       kind_is = refl;
-      stands = λ inputs events s. accepts_comes (code_of m.setting.code.now) m.setting.count m.setting.me.no m.execution c.go_past_receive-self.new.self m.begun m.next c.go_past_receive-self.result c.args.set c.args.letter (subst (λ (y : Pause). leads (code_of m.setting.code.now) m.setting.count m.setting.me.no y ≡ true) (sym c.requires) refl) m.kept c.go_past_receive-self.ensures.after inputs events s;
+      stands = λ inputs events s. accepts_comes (code_of m.setting.code.now) m.setting.count m.setting.me.no m.execution c.go_past_receive-self.new.self m.begun m.next c.go_past_receive-self.result
+          c.args.set c.args.letter (subst (λ (y : Pause). leads (code_of m.setting.code.now) m.setting.count m.setting.me.no y ≡ true) (sym c.requires) refl) m.kept
+          c.go_past_receive-self.ensures.after inputs events s;
       setting = refl;
       sent = c.go_past_receive-self.ensures.sent;
     }

@@ -1,4 +1,4 @@
-use Rattle.std.proofs.Common.{◌≡◌, length, ap, arith}
+use Rattle.std.proofs.Common.{length, ap, arith}
 use Rattle.stack_code.proofs.Fetched.{all_within}
 use Rattle.stack_code.proofs.code.Code.longest.Goals as goal
 
