@@ -1,5 +1,5 @@
 -- A call, by its arguments.
-use Rattle.std.proofs.Common.{◌≡◌, ℕ, ◌+◌, ◌≤◌, Bool, true, List, [], ◌∷◌, ◌++◌, length, ◌-◌, take, drop, sym, subst, ap, ◌∙◌, refl, arith, Result, Ok, Err}
+use Rattle.std.proofs.Common.{◌≡◌, ℕ, ◌≤◌, Bool, true, List, [], ◌∷◌, ◌++◌, length, ◌-◌, take, drop, sym, subst, ap, ◌∙◌, refl, arith, Result, Ok, Err}
 use Rattle.c_tree.specs.declared.program.PExpr.{PExpr}
 use Rattle.c_tree.specs.declared.program.Slot.{Slot}
 use Rattle.c_checker.specs.declared.fault.CheckFault.{CheckFault}

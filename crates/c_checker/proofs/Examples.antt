@@ -1,9 +1,9 @@
 -- What small trees stand for, and the rules that they break, by computing.
-use Rattle.std.proofs.Common.{◌≡◌, ℕ, false, List, [], ◌∷◌, Option, Some, None, refl}
+use Rattle.std.proofs.Common.{◌≡◌, ℕ, true, false, List, [], ◌∷◌, map, Option, Some, None, refl}
 use Rattle.std.specs.Prelude.{codes}
 use denote.Hole.Carrier.{hidden}
 use Rattle.nm_base.specs.declared.operator.Ctype.{Ctype}
-use Rattle.nm_base.specs.declared.operator.Ctype.TheVariants.{Int}
+use Rattle.nm_base.specs.declared.operator.Ctype.TheVariants.{Int, Unsigned}
 use Rattle.nm_base.specs.declared.operator.BinaryOp.TheVariants as op
 use Rattle.c_tree.specs.declared.tree.Expr.{Expr}
 use Rattle.c_tree.specs.declared.tree.Expr.TheVariants as e
@@ -13,14 +13,12 @@ use Rattle.c_tree.specs.declared.tree.Stmt.TheVariants as s
 use Rattle.c_tree.specs.declared.tree.Stmt.TheBlock.{shape-the_row-Stmt-0, hidden-the_row-Stmt-0, shape-the_row-Stmt-1, hidden-the_row-Stmt-1}
 use Rattle.c_tree.specs.declared.tree.Stmt.TheBlock.{shape-the_row-Arm-2, hidden-the_row-Arm-2}
 use Rattle.c_tree.specs.declared.tree.Arm.{Arm}
-use Rattle.c_tree.specs.declared.tree.Label.{Label}
 use Rattle.c_tree.specs.declared.tree.Declr.{Declr}
 use Rattle.c_tree.specs.declared.tree.Vars.{Vars}
 use Rattle.c_tree.specs.declared.tree.Param.{Param}
 use Rattle.c_tree.specs.declared.tree.Head.{Head}
 use Rattle.c_tree.specs.declared.tree.Item.{Item}
 use Rattle.c_tree.specs.declared.tree.Item.TheVariants as item
-use Rattle.c_tree.specs.declared.tree.Tree.{Tree}
 use Rattle.c_checker.specs.declared.fault.CheckFault.{CheckFault}
 use Rattle.c_checker.specs.declared.fault.CheckFault.TheVariants as f
 use Rattle.c_checker.specs.Constants.{constant_of}
@@ -28,14 +26,7 @@ use Rattle.c_checker.specs.Expressions.{part_of}
 use Rattle.c_checker.specs.Statements.{stmt_of, arm_of}
 use Rattle.c_checker.specs.Units.{checks}
 
-abbrev head_main : Head
-head_main = record { result = Some Int; name = codes "main"; params = []; line = 1 }
-
-abbrev main : List Stmt → Item
-main list = item.Function head_main (s.Block [] list 1)
-
-abbrev faults_of : List Item → List CheckFault
-faults_of items = (checks (record { items = items })).faults
+-- ---- parts of trees
 
 abbrev num : ℕ → Expr
 num n = e.Const n Int 2
@@ -43,20 +34,8 @@ num n = e.Const n Int 2
 abbrev name : List ℕ → Expr
 name x = e.Name x 2
 
-abbrev vars : List Declr → Item
-vars list = item.Vars (record { of = Int; list = list })
-
-abbrev scalar : List ℕ → Declr
-scalar x = record { name = x; size = None; start = None; line = 1 }
-
-abbrev array : List ℕ → Expr → Declr
-array x n = record { name = x; size = Some n; start = None; line = 1 }
-
-abbrev proto : List ℕ → Option Ctype → List Param → Item
-proto x result params = item.Proto (record { result = result; name = x; params = params; line = 1 })
-
-abbrev int_param : Param
-int_param = record { of = Int; name = None; array = false; size = None; line = 1 }
+abbrev call : List ℕ → List Expr → Expr
+call x args = e.Call x args 2
 
 abbrev run : Expr → Stmt
 run x = s.Run x 2
@@ -64,53 +43,185 @@ run x = s.Run x 2
 abbrev returns : Expr → Stmt
 returns x = s.Return (Some x) 2
 
-abbrev body_faults : List Stmt → List CheckFault
-body_faults list = faults_of (main list ∷ [])
+abbrev scalar : List ℕ → Declr
+scalar x = record { name = x; size = None; start = None; line = 1 }
 
-breaks_outside : body_faults (s.Break 2 ∷ []) ≡ f.BreakOutside 2 ∷ []
-unfolding part_of constant_of stmt_of arm_of hidden shape-the_row-Expr-0 hidden-the_row-Expr-0 shape-the_row-Expr-1 hidden-the_row-Expr-1 shape-the_row-Stmt-0 hidden-the_row-Stmt-0 shape-the_row-Stmt-1 hidden-the_row-Stmt-1 shape-the_row-Arm-2 hidden-the_row-Arm-2
-breaks_outside = refl
+abbrev array : List ℕ → Expr → Declr
+array x n = record { name = x; size = Some n; start = None; line = 1 }
 
-continues_outside : body_faults (s.Switch (num 1) (record { labels = record { value = None; line = 2 } ∷ []; list = s.Break 2 ∷ s.Continue 3 ∷ [] } ∷ []) 2 ∷ []) ≡ f.ContinueOutside 3 ∷ []
-unfolding part_of constant_of stmt_of arm_of hidden shape-the_row-Expr-0 hidden-the_row-Expr-0 shape-the_row-Expr-1 hidden-the_row-Expr-1 shape-the_row-Stmt-0 hidden-the_row-Stmt-0 shape-the_row-Stmt-1 hidden-the_row-Stmt-1 shape-the_row-Arm-2 hidden-the_row-Arm-2
-continues_outside = refl
+abbrev ints : List Declr → Vars
+ints list = record { of = Int; list = list }
 
-empty_size : faults_of (vars (array (codes "a") (num 0) ∷ []) ∷ main [] ∷ []) ≡ f.BadSize 1 ∷ []
-unfolding part_of constant_of stmt_of arm_of hidden shape-the_row-Expr-0 hidden-the_row-Expr-0 shape-the_row-Expr-1 hidden-the_row-Expr-1 shape-the_row-Stmt-0 hidden-the_row-Stmt-0 shape-the_row-Stmt-1 hidden-the_row-Stmt-1 shape-the_row-Arm-2 hidden-the_row-Arm-2
-empty_size = refl
+abbrev param : Ctype → Option (List ℕ) → Param
+param of x = record { of = of; name = x; array = false; size = None; line = 1 }
 
-undeclared_call : body_faults (run (e.Call (codes "f") (name (codes "x") ∷ []) 2) ∷ []) ≡ f.Undeclared 2 ∷ f.Undeclared 2 ∷ []
-unfolding part_of constant_of stmt_of arm_of hidden shape-the_row-Expr-0 hidden-the_row-Expr-0 shape-the_row-Expr-1 hidden-the_row-Expr-1 shape-the_row-Stmt-0 hidden-the_row-Stmt-0 shape-the_row-Stmt-1 hidden-the_row-Stmt-1 shape-the_row-Arm-2 hidden-the_row-Arm-2
-undeclared_call = refl
+abbrev head : Option Ctype → List ℕ → List Param → Head
+head result x params = record { result = result; name = x; params = params; line = 1 }
 
-array_value : faults_of (vars (array (codes "a") (num 3) ∷ []) ∷ main (returns (name (codes "a")) ∷ []) ∷ []) ≡ f.NotScalar 2 ∷ []
-unfolding part_of constant_of stmt_of arm_of hidden shape-the_row-Expr-0 hidden-the_row-Expr-0 shape-the_row-Expr-1 hidden-the_row-Expr-1 shape-the_row-Stmt-0 hidden-the_row-Stmt-0 shape-the_row-Stmt-1 hidden-the_row-Stmt-1 shape-the_row-Arm-2 hidden-the_row-Arm-2
-array_value = refl
+abbrev vars : List Declr → Item
+vars list = item.Vars (ints list)
 
-no_body : faults_of (proto (codes "f") (Some Int) (int_param ∷ []) ∷ main (returns (e.Call (codes "f") [] 2) ∷ []) ∷ []) ≡ f.Arity 2 ∷ f.NoBody 1 ∷ []
-unfolding part_of constant_of stmt_of arm_of hidden shape-the_row-Expr-0 hidden-the_row-Expr-0 shape-the_row-Expr-1 hidden-the_row-Expr-1 shape-the_row-Stmt-0 hidden-the_row-Stmt-0 shape-the_row-Stmt-1 hidden-the_row-Stmt-1 shape-the_row-Arm-2 hidden-the_row-Arm-2
-no_body = refl
+abbrev proto : List ℕ → List Param → Item
+proto x params = item.Proto (head (Some Int) x params)
 
-double_case : body_faults (s.Switch (num 1) (record {
-  labels = record { value = Some (num 1); line = 2 } ∷ record { value = Some (num 1); line = 3 } ∷ record
-      { value = None; line = 4 } ∷ record { value = None; line = 5 } ∷ [];
-  list = s.Empty 2 ∷ [];
-} ∷ []) 2 ∷ []) ≡ f.DoubleCase 3 ∷ f.DoubleDefault 5 ∷ []
-unfolding part_of constant_of stmt_of arm_of hidden shape-the_row-Expr-0 hidden-the_row-Expr-0 shape-the_row-Expr-1 hidden-the_row-Expr-1 shape-the_row-Stmt-0 hidden-the_row-Stmt-0 shape-the_row-Stmt-1 hidden-the_row-Stmt-1 shape-the_row-Arm-2 hidden-the_row-Arm-2
-double_case = refl
+abbrev main : List Stmt → Item
+main list = item.Function (head (Some Int) (codes "main") []) (s.Block [] list 1)
 
-printed : body_faults (run (e.Call (codes "printf") (e.Text (codes "%d") 2 ∷ num 1 ∷ []) 2) ∷ run (e.Call (codes "printf") (e.Text (codes "%q") 3 ∷ []) 2) ∷ []) ≡ f.Format 3 ∷ []
-unfolding part_of constant_of stmt_of arm_of hidden shape-the_row-Expr-0 hidden-the_row-Expr-0 shape-the_row-Expr-1 hidden-the_row-Expr-1 shape-the_row-Stmt-0 hidden-the_row-Stmt-0 shape-the_row-Stmt-1 hidden-the_row-Stmt-1 shape-the_row-Arm-2 hidden-the_row-Arm-2
-printed = refl
+-- ---- units, each after its text, and the rules that they break
 
-no_target : body_faults (run (e.Assign None (e.Binary op.Add (num 1) (name (codes "x")) 3) (num 1) 3) ∷ []) ≡ f.NotAssignable 3 ∷ f.Undeclared 2 ∷ []
-unfolding part_of constant_of stmt_of arm_of hidden shape-the_row-Expr-0 hidden-the_row-Expr-0 shape-the_row-Expr-1 hidden-the_row-Expr-1 shape-the_row-Stmt-0 hidden-the_row-Stmt-0 shape-the_row-Stmt-1 hidden-the_row-Stmt-1 shape-the_row-Arm-2 hidden-the_row-Arm-2
-no_target = refl
+record Row : Type 0 where
+  unit : List Item
+  faults : List CheckFault
 
-no_main : faults_of [] ≡ f.NoMain 1 ∷ []
-unfolding part_of constant_of stmt_of arm_of hidden shape-the_row-Expr-0 hidden-the_row-Expr-0 shape-the_row-Expr-1 hidden-the_row-Expr-1 shape-the_row-Stmt-0 hidden-the_row-Stmt-0 shape-the_row-Stmt-1 hidden-the_row-Stmt-1 shape-the_row-Arm-2 hidden-the_row-Arm-2
-no_main = refl
+-- (nothing)
+abbrev nothing : Row
+nothing = record { unit = []; faults = f.NoMain 1 ∷ [] }
 
-twice : faults_of (vars (scalar (codes "main") ∷ scalar (codes "send") ∷ []) ∷ main [] ∷ []) ≡ f.Twice 1 ∷ f.Twice 1 ∷ []
-unfolding part_of constant_of stmt_of arm_of hidden shape-the_row-Expr-0 hidden-the_row-Expr-0 shape-the_row-Expr-1 hidden-the_row-Expr-1 shape-the_row-Stmt-0 hidden-the_row-Stmt-0 shape-the_row-Stmt-1 hidden-the_row-Stmt-1 shape-the_row-Arm-2 hidden-the_row-Arm-2
-twice = refl
+-- int main(void) { break; }
+abbrev break_outside : Row
+break_outside = record { unit = main (s.Break 2 ∷ []) ∷ []; faults = f.BreakOutside 2 ∷ [] }
+
+-- int main(void) { switch (1) { default: break; continue; } }
+abbrev continue_in_a_switch : Row
+continue_in_a_switch = record {
+  unit = main (s.Switch (num 1) (record { labels = record { value = None; line = 2 } ∷ []; list = s.Break 2 ∷ s.Continue 3 ∷ [] } ∷ []) 2 ∷ []) ∷ [];
+  faults = f.ContinueOutside 3 ∷ [];
+}
+
+-- int a[0]; int main(void) {}
+abbrev empty_global : Row
+empty_global = record { unit = vars (array (codes "a") (num 0) ∷ []) ∷ main [] ∷ []; faults = f.BadSize 1 ∷ [] }
+
+-- int main(void) { int a[0]; return 0; }
+abbrev empty_local : Row
+empty_local = record {
+  unit = item.Function (head (Some Int) (codes "main") []) (s.Block (ints (array (codes "a") (num 0) ∷ []) ∷ []) (returns (num 0) ∷ []) 1) ∷ [];
+  faults = f.BadSize 1 ∷ [];
+}
+
+-- int f(int a); int f(unsigned a) { return 0; } int main(void) {}
+abbrev two_heads : Row
+two_heads = record {
+  unit = proto (codes "f") (param Int (Some (codes "a")) ∷ [])
+      ∷ item.Function (head (Some Int) (codes "f") (param Unsigned (Some (codes "a")) ∷ [])) (s.Block [] (returns (num 0) ∷ []) 1) ∷ main [] ∷ [];
+  faults = f.Mismatch 1 ∷ [];
+}
+
+-- int f(void); int main(void) { return f(1 - 1); }
+abbrev one_argument : Row
+one_argument = record {
+  unit = proto (codes "f") [] ∷ main (returns (call (codes "f") (e.Binary op.Sub (num 1) (num 1) 2 ∷ [])) ∷ []) ∷ [];
+  faults = f.Arity 2 ∷ f.NoBody 1 ∷ [];
+}
+
+-- int f(int); int main(void) { return f(); }
+abbrev no_argument : Row
+no_argument = record { unit = proto (codes "f") (param Int None ∷ []) ∷ main (returns (call (codes "f") []) ∷ []) ∷ []; faults = f.Arity 2 ∷ f.NoBody 1 ∷ [] }
+
+-- int f(void); int main(void) { return f(); }
+abbrev no_body : Row
+no_body = record { unit = proto (codes "f") [] ∷ main (returns (call (codes "f") []) ∷ []) ∷ []; faults = f.NoBody 1 ∷ [] }
+
+-- void f(void) {} int main(void) { return f(); }
+abbrev void_value : Row
+void_value = record {
+  unit = item.Function (head None (codes "f") []) (s.Block [] [] 1) ∷ main (returns (call (codes "f") []) ∷ []) ∷ [];
+  faults = f.VoidValue 2 ∷ [];
+}
+
+-- int main(int a) { return a; }
+abbrev main_with_a_parameter : Row
+main_with_a_parameter = record {
+  unit = item.Function (head (Some Int) (codes "main") (param Int (Some (codes "a")) ∷ [])) (s.Block [] (returns (name (codes "a")) ∷ []) 1) ∷ [];
+  faults = f.NoMain 1 ∷ [];
+}
+
+-- int a[3]; int main(void) { return a; }
+abbrev array_value : Row
+array_value = record { unit = vars (array (codes "a") (num 3) ∷ []) ∷ main (returns (name (codes "a")) ∷ []) ∷ []; faults = f.NotScalar 2 ∷ [] }
+
+-- int main(void) { return x; }
+abbrev unknown_name : Row
+unknown_name = record { unit = main (returns (name (codes "x")) ∷ []) ∷ []; faults = f.Undeclared 2 ∷ [] }
+
+-- int main(void) { f(x); }
+abbrev unknown_call : Row
+unknown_call = record { unit = main (run (call (codes "f") (name (codes "x") ∷ [])) ∷ []) ∷ []; faults = f.Undeclared 2 ∷ f.Undeclared 2 ∷ [] }
+
+-- int main(void) { printf("%d"); return 0; }
+abbrev no_value_printed : Row
+no_value_printed = record { unit = main (run (call (codes "printf") (e.Text (codes "%d") 2 ∷ [])) ∷ returns (num 0) ∷ []) ∷ []; faults = f.Format 2 ∷ [] }
+
+-- int main(void) { printf("%d", 1); printf("%q"); }
+abbrev unknown_conversion : Row
+unknown_conversion = record {
+  unit = main (run (call (codes "printf") (e.Text (codes "%d") 2 ∷ num 1 ∷ [])) ∷ run (call (codes "printf") (e.Text (codes "%q") 3 ∷ [])) ∷ []) ∷ [];
+  faults = f.Format 3 ∷ [];
+}
+
+-- int main(void) { 1 + x = 1; }
+abbrev no_target : Row
+no_target = record {
+  unit = main (run (e.Assign None (e.Binary op.Add (num 1) (name (codes "x")) 3) (num 1) 3) ∷ []) ∷ [];
+  faults = f.NotAssignable 3 ∷ f.Undeclared 2 ∷ [];
+}
+
+-- int main, send; int main(void) {}
+abbrev taken_names : Row
+taken_names = record { unit = vars (scalar (codes "main") ∷ scalar (codes "send") ∷ []) ∷ main [] ∷ []; faults = f.Twice 1 ∷ f.Twice 1 ∷ [] }
+
+-- int main(void) { switch (1) { case 1: case 1: default: default: ; } }
+abbrev double_labels : Row
+double_labels = record {
+  unit = main (s.Switch (num 1) (record {
+    labels = record { value = Some (num 1); line = 2 } ∷ record { value = Some (num 1); line = 3 } ∷ record { value = None; line = 4 } ∷ record { value = None; line = 5 } ∷ [];
+    list = s.Empty 2 ∷ [];
+  } ∷ []) 2 ∷ []) ∷ [];
+  faults = f.DoubleCase 3 ∷ f.DoubleDefault 5 ∷ [];
+}
+
+-- the third case of the program below
+abbrev third_case : ℕ → Arm
+third_case n = record { labels = record { value = Some (e.Const n Int 8); line = 8 } ∷ []; list = s.Continue 8 ∷ [] }
+
+abbrev prints : List ℕ → ℕ → Stmt
+prints text line = s.Run (e.Call (codes "printf") (e.Text text line ∷ []) line) line
+
+-- int main(void)
+-- {
+--     int i;
+--     for (i = 0; i < 4; i++)
+--         switch (i) {
+--         case 0: printf("a");
+--         case 1: printf("b"); break;
+--         case n: continue;
+--         default: printf("d");
+--         }
+--     return 0;
+-- }
+abbrev counting : ℕ → List Item
+counting n = item.Function (head (Some Int) (codes "main") []) (s.Block (ints (record { name = codes "i"; size = None; start = None; line = 3 } ∷ []) ∷ [])
+    (s.For (Some (e.Assign None (e.Name (codes "i") 4) (e.Const 0 Int 4) 4)) (Some (e.Binary op.Less (e.Name (codes "i") 4) (e.Const 4 Int 4) 4))
+    (Some (e.Bump true false (e.Name (codes "i") 4) 4))
+    (s.Switch (e.Name (codes "i") 5) (
+    record { labels = record { value = Some (e.Const 0 Int 6); line = 6 } ∷ []; list = prints (codes "a") 6 ∷ [] }
+    ∷ record { labels = record { value = Some (e.Const 1 Int 7); line = 7 } ∷ []; list = prints (codes "b") 7 ∷ s.Break 7 ∷ [] }
+    ∷ third_case n
+    ∷ record { labels = record { value = None; line = 9 } ∷ []; list = prints (codes "d") 9 ∷ [] } ∷ []) 5) 4
+    ∷ s.Return (Some (e.Const 0 Int 11)) 11 ∷ []) 2) ∷ []
+
+abbrev three_cases : Row
+three_cases = record { unit = counting 2; faults = [] }
+
+abbrev double_case : Row
+double_case = record { unit = counting 1; faults = f.DoubleCase 8 ∷ [] }
+
+abbrev rows : List Row
+rows = nothing ∷ break_outside ∷ continue_in_a_switch ∷ empty_global ∷ empty_local ∷ two_heads ∷ one_argument ∷ no_argument ∷ no_body ∷ void_value ∷ main_with_a_parameter ∷ array_value
+    ∷ unknown_name ∷ unknown_call ∷ no_value_printed ∷ unknown_conversion ∷ no_target ∷ taken_names ∷ double_labels ∷ three_cases ∷ double_case ∷ []
+
+-- Each unit breaks these rules and no others.
+each_row : map (λ row. (checks (record { items = row.unit })).faults) rows ≡ map (λ row. row.faults) rows
+unfolding part_of constant_of stmt_of arm_of hidden shape-the_row-Expr-0 hidden-the_row-Expr-0 shape-the_row-Expr-1 hidden-the_row-Expr-1
+    shape-the_row-Stmt-0 hidden-the_row-Stmt-0 shape-the_row-Stmt-1 hidden-the_row-Stmt-1 shape-the_row-Arm-2 hidden-the_row-Arm-2
+each_row = refl

@@ -1,10 +1,8 @@
 -- Names that are visible before a statement are visible after it.
 use Rattle.std.proofs.Common.{◌≡◌, ℕ, ◌+◌, Bool, true, false, List, [], ◌∷◌, ◌++◌, length, take, map, Option, Some, None, refl, sym, ap, ◌∙◌, subst}
 use Rattle.std.proofs.lemmas.List.{append-nil}
-use denote.Hole.Carrier.{out, roll}
 use Rattle.nm_base.specs.declared.operator.Ctype.{Ctype}
 use Rattle.c_tree.specs.declared.program.PLabel.{PLabel}
-use Rattle.c_tree.specs.declared.program.PExpr.{PExpr}
 use Rattle.c_tree.specs.declared.program.PArm.{PArm}
 use Rattle.c_tree.specs.declared.program.PStmt.{PStmt}
 use Rattle.c_tree.specs.declared.program.PStmt.TheVariants as p
@@ -23,13 +21,13 @@ use Rattle.c_checker.specs.declared.entries.Entry.{Entry}
 use Rattle.c_checker.specs.declared.state.Body.{Body}
 use Rattle.c_checker.specs.declared.state.Around.{Around}
 use Rattle.c_tree.specs.declared.program.Function.{Function}
-use Rattle.c_checker.specs.Found.{Found, fine, pure, note, lift, ◌>>=◌, ◌>>◌}
+use Rattle.c_checker.specs.Found.{Found, fine, pure, note, lift, ◌>>=◌}
 use Rattle.c_checker.specs.Scope.{Names}
-use Rattle.c_checker.specs.Statements.{Writes, get, put, visible, value, optional, local_faults, size, new_local, add_local, declare, declares, locals, begin_block, end_block, slots, entry_of}
+use Rattle.c_checker.specs.Statements.{Writes, get, visible, value, optional, size, new_local, add_local, declare, declares, locals, begin_block, slots, entry_of}
 use Rattle.c_checker.specs.Statements.{case_label, new_label, label_faults, label, constant_pattern, labels, outside, inside_loop, inside_switch, StmtPart, ArmPart, sequence}
 use Rattle.c_checker.specs.Statements.{else_part, return_faults, arms}
-use Rattle.c_checker.specs.Statements.{block_from, block, run, if_stmt, while_stmt, do_stmt, controls, for_stmt, break_stmt, continue_stmt, return_stmt, switch_stmt, arm}
-use Rattle.c_checker.specs.Statements.{alone, plain, stmt_step, arm_step, stmt_of, arm_of}
+use Rattle.c_checker.specs.Statements.{block_from, block, if_stmt, while_stmt, do_stmt, controls, for_stmt, return_stmt, switch_stmt, arm}
+use Rattle.c_checker.specs.Statements.{plain, stmt_step, arm_step, stmt_of, arm_of}
 use Rattle.c_tree.specs.declared.program.Slot.{Slot}
 use Rattle.c_tree.specs.declared.tree.Head.{Head}
 use Rattle.c_checker.specs.declared.state.File.{File}

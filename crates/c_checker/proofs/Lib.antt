@@ -3,6 +3,7 @@ mod Examples
 pub mod Forms
 pub mod Found
 pub mod Kept
+pub mod Places
 pub mod StmtForms
 pub mod TypedBodies
 pub mod TypedExprs

@@ -49,7 +49,8 @@ module _ (functions : List Heading) (result : Option Ctype) where
   pub stmt_run : (part : Expr) (line : ℕ) → stmt_of functions result (s.Run part line) ≡ stmt_step functions result (Stmt-F.Run part line)
   stmt_run part line = sym (ap (stmt_of functions result) (s.rolls-Run part line)) ∙ stmt_roll (Stmt-F.Run part line)
 
-  pub stmt_if : (test : Expr) (first : Stmt) (second : Option Stmt) (line : ℕ) → stmt_of functions result (s.If test first second line) ≡ stmt_step functions result (Stmt-F.If test (stmt_of functions result first) (option_map (stmt_of functions result) second) line)
+  pub stmt_if : (test : Expr) (first : Stmt) (second : Option Stmt) (line : ℕ)
+      → stmt_of functions result (s.If test first second line) ≡ stmt_step functions result (Stmt-F.If test (stmt_of functions result first) (option_map (stmt_of functions result) second) line)
   stmt_if test first None line = sym (ap (stmt_of functions result) (s.rolls-If test first None line)) ∙ stmt_roll (Stmt-F.If test first None line)
   stmt_if test first (Some second) line = sym (ap (stmt_of functions result) (s.rolls-If test first (Some second) line)) ∙ stmt_roll (Stmt-F.If test first (Some second) line)
 

@@ -29,7 +29,8 @@ use Rattle.c_checker.specs.declared.state.File.{File}
 use Rattle.c_checker.specs.Found.{Found, unless}
 use Rattle.c_checker.specs.Scope.{Names, variable, built_in, latest, find, params_of, params_of_heading, is_taken}
 use Rattle.c_checker.specs.Statements.{declr_faults, size}
-use Rattle.c_checker.specs.Units.{visible, visible_after, visible_params, initial, global_of, global_entry, global, globals, slot_of_param, param_name_faults, params, heading_of, first_head, head_of, head}
+use Rattle.c_checker.specs.Units.{visible, visible_after, visible_params, initial, global_of, global_entry, global, globals, slot_of_param, param_name_faults, params, heading_of, first_head, head_of}
+use Rattle.c_checker.specs.Units.{head}
 use Rattle.c_checker.proofs.TypedLists.{Front, front_then, front_last, get_next, nil_left, nil_right, unless_none, and_true, both_true, not_nil}
 use Rattle.c_checker.proofs.TypedReads.{AllShort}
 use Rattle.c_checker.proofs.TypedParts.{ThingFits, SameParams}
@@ -242,7 +243,8 @@ module _ (G : List Global) (F : List Function) (T : List (List ℕ)) where
           entries = entries_and (length s.headings) s.entries (global_entry of d sized.value (length s.globals) ∷ []) k.entries
               (entry_fits (length s.headings) (length s.globals) made (front_last s.globals made e.globals), tt);
           named = list_all-append (λ (e : Entry). is_name e.name) s.entries (global_entry of d sized.value (length s.globals) ∷ []) ∙ and_true k.named (and_true f.name refl);
-          globals = list_all-append global_fits s.globals (made ∷ []) ∙ and_true k.globals (and_true (and_true (and_true f.name f.length) (start_is (visible s) (visible_after of d sized.value s) d.size d.start d.line f.array)) refl);
+          globals = list_all-append global_fits s.globals (made ∷ [])
+              ∙ and_true k.globals (and_true (and_true (and_true f.name f.length) (start_is (visible s) (visible_after of d sized.value s) d.size d.start d.line f.array)) refl);
           many = omega (arith, f.few, length-append s.globals (made ∷ []));
           words = words_more s.globals made ∙ ap (λ n. n + words_of_global made) k.words ∙ sym words;
           room = omega (arith, words, leb-true (s.words + words_of_global made) 65536 f.words);

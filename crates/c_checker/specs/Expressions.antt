@@ -1,5 +1,5 @@
 -- What expressions stand for, and the rules that they break.
-use Rattle.std.specs.Prelude.{ℕ, ◌+◌, Bool, true, false, ◌&&◌, ◌==◌, nat_le, if◌then◌else◌, List, [], ◌∷◌, ◌++◌, length, Option, Some, None, unwrap_or}
+use Rattle.std.specs.Prelude.{ℕ, Bool, true, false, ◌&&◌, ◌==◌, nat_le, if◌then◌else◌, List, [], ◌∷◌, ◌++◌, length, Option, Some, None, unwrap_or}
 use Rattle.nm_base.specs.declared.operator.Ctype.{Ctype}
 use Rattle.nm_base.specs.declared.operator.Ctype.TheVariants.{Int}
 use Rattle.nm_base.specs.declared.operator.UnaryOp.{UnaryOp}

@@ -30,7 +30,7 @@ use Rattle.c_checker.specs.declared.state.Around.{Around}
 use Rattle.c_checker.specs.Constants.{constant_of}
 use Rattle.c_checker.specs.Scope.{Names, names_of, variable, is_taken}
 use Rattle.c_checker.specs.Found.{Found, Check, fine, ◌>>=◌, ◌>>◌, pure, lift, unless, note}
-use Rattle.c_checker.specs.Expressions.{Reads, part_of, first_line}
+use Rattle.c_checker.specs.Expressions.{part_of, first_line}
 
 abbrev pub Writes : Type 0 → Type 0
 Writes A = Check Body A

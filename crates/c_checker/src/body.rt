@@ -173,7 +173,7 @@ fn new_local(
         name: d.name.copy(alloc)?,
         thing: variable(Target::Slot(slot), of, length.is_some()),
     };
-    body.entries.push(entry)?;
+    body.entries.push(alloc, entry)?;
     Ok(slot)
 }
 

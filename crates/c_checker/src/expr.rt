@@ -118,6 +118,21 @@ fn subscripted(thing: Thing, line: u32) -> Result<(Target, Ctype), CheckFault>
     }
 }
 
+/// The value of an expression, in a box.
+#[cycle(expr)]
+fn boxed(
+    alloc: Global,
+    scope: &Scope<'_>,
+    texts: &mut List<Bytes>,
+    e: &Expr,
+    used: bool,
+) -> Result<Boxed<PExpr>, CheckFault>
+    ensures { Gives ((part_of (names_of scope.now.entries.now scope.now.functions.now) e.now).value used texts.old) result texts.new }
+{
+    let part = value(alloc, scope, texts, e, used)?;
+    Ok(Boxed::new(alloc, part)?)
+}
+
 /// An element of an array.
 #[cycle(expr)]
 #[tactic(auto, using(crate::proofs::Found::refuses_left))]
@@ -132,8 +147,7 @@ fn element(
     ensures { Gives (spec.element thing line (part_of (names_of scope.now.entries.now scope.now.functions.now) index.now) texts.old) result texts.new }
 {
     let (what, of) = subscripted(thing, line)?;
-    let index = value(alloc, scope, texts, index, true)?;
-    let index = Boxed::new(alloc, index)?;
+    let index = boxed(alloc, scope, texts, index, true)?;
     Ok(typed(PKind::At { what, index }, of, line))
 }
 
@@ -171,12 +185,12 @@ fn both(
     left_used: bool,
     right: &Expr,
     right_used: bool,
-) -> Result<(PExpr, PExpr), CheckFault>
+) -> Result<(Boxed<PExpr>, Boxed<PExpr>), CheckFault>
     ensures { Gives (spec.both ((part_of (names_of scope.now.entries.now scope.now.functions.now) left.now).value left_used)
         ((part_of (names_of scope.now.entries.now scope.now.functions.now) right.now).value right_used) texts.old) result texts.new }
 {
-    let left = value(alloc, scope, texts, left, left_used)?;
-    let right = value(alloc, scope, texts, right, right_used)?;
+    let left = boxed(alloc, scope, texts, left, left_used)?;
+    let right = boxed(alloc, scope, texts, right, right_used)?;
     Ok((left, right))
 }
 
@@ -190,14 +204,14 @@ fn three(
     first: &Expr,
     second: &Expr,
     third: &Expr,
-) -> Result<(PExpr, PExpr, PExpr), CheckFault>
+) -> Result<(Boxed<PExpr>, Boxed<PExpr>, Boxed<PExpr>), CheckFault>
     ensures { Gives (spec.three ((part_of (names_of scope.now.entries.now scope.now.functions.now) first.now).value true)
         ((part_of (names_of scope.now.entries.now scope.now.functions.now) second.now).value true)
         ((part_of (names_of scope.now.entries.now scope.now.functions.now) third.now).value true) texts.old) result texts.new }
 {
-    let first = value(alloc, scope, texts, first, true)?;
-    let second = value(alloc, scope, texts, second, true)?;
-    let third = value(alloc, scope, texts, third, true)?;
+    let first = boxed(alloc, scope, texts, first, true)?;
+    let second = boxed(alloc, scope, texts, second, true)?;
+    let third = boxed(alloc, scope, texts, third, true)?;
     Ok((first, second, third))
 }
 
@@ -208,10 +222,11 @@ fn target(
     scope: &Scope<'_>,
     texts: &mut List<Bytes>,
     e: &Expr,
-) -> Result<PExpr, CheckFault>
+) -> Result<Boxed<PExpr>, CheckFault>
     ensures { Gives (spec.target (part_of (names_of scope.now.entries.now scope.now.functions.now) e.now) texts.old) result texts.new }
 {
-    place(alloc, scope, texts, e, line_of(e))
+    let place = place(alloc, scope, texts, e, line_of(e))?;
+    Ok(Boxed::new(alloc, place)?)
 }
 
 /// The target of an assignment and its value.
@@ -223,12 +238,12 @@ fn stored(
     texts: &mut List<Bytes>,
     place: &Expr,
     stored: &Expr,
-) -> Result<(PExpr, PExpr), CheckFault>
+) -> Result<(Boxed<PExpr>, Boxed<PExpr>), CheckFault>
     ensures { Gives (spec.stored (part_of (names_of scope.now.entries.now scope.now.functions.now) place.now)
         (part_of (names_of scope.now.entries.now scope.now.functions.now) stored.now) texts.old) result texts.new }
 {
     let place = target(alloc, scope, texts, place)?;
-    let stored = value(alloc, scope, texts, stored, true)?;
+    let stored = boxed(alloc, scope, texts, stored, true)?;
     Ok((place, stored))
 }
 
@@ -246,9 +261,8 @@ fn unary(
     ensures { Gives ((part_step (names_of scope.now.entries.now scope.now.functions.now) (Expr-F.Unary op
         (part_of (names_of scope.now.entries.now scope.now.functions.now) part.now) line)).value true texts.old) result texts.new }
 {
-    let part = value(alloc, scope, texts, part, true)?;
-    let of = unary_type(op, type_of(&part));
-    let part = Boxed::new(alloc, part)?;
+    let part = boxed(alloc, scope, texts, part, true)?;
+    let of = unary_type(op, type_of(part.get()));
     Ok(typed(PKind::Unary { op, part }, of, line))
 }
 
@@ -268,8 +282,7 @@ fn bump(
         (part_of (names_of scope.now.entries.now scope.now.functions.now) part.now) line)).value true texts.old) result texts.new }
 {
     let part = target(alloc, scope, texts, part)?;
-    let of = part.of;
-    let part = Boxed::new(alloc, part)?;
+    let of = part.get().of;
     Ok(PExpr {
         kind: PKind::Bump { up, before, part },
         of,
@@ -294,9 +307,7 @@ fn binary(
         line)).value true texts.old) result texts.new }
 {
     let (left, right) = both(alloc, scope, texts, left, true, right, true)?;
-    let of = binary_type(op, type_of(&left), type_of(&right));
-    let left = Boxed::new(alloc, left)?;
-    let right = Boxed::new(alloc, right)?;
+    let of = binary_type(op, type_of(left.get()), type_of(right.get()));
     Ok(typed(PKind::Binary { op, left, right }, of, line))
 }
 
@@ -315,8 +326,6 @@ fn and(
         left.now) (part_of (names_of scope.now.entries.now scope.now.functions.now) right.now) line)).value true texts.old) result texts.new }
 {
     let (left, right) = both(alloc, scope, texts, left, true, right, true)?;
-    let left = Boxed::new(alloc, left)?;
-    let right = Boxed::new(alloc, right)?;
     Ok(typed(PKind::And { left, right }, Ctype::Int, line))
 }
 
@@ -335,8 +344,6 @@ fn or(
         left.now) (part_of (names_of scope.now.entries.now scope.now.functions.now) right.now) line)).value true texts.old) result texts.new }
 {
     let (left, right) = both(alloc, scope, texts, left, true, right, true)?;
-    let left = Boxed::new(alloc, left)?;
-    let right = Boxed::new(alloc, right)?;
     Ok(typed(PKind::Or { left, right }, Ctype::Int, line))
 }
 
@@ -357,10 +364,7 @@ fn choose(
         (part_of (names_of scope.now.entries.now scope.now.functions.now) no.now) line)).value true texts.old) result texts.new }
 {
     let (test, yes, no) = three(alloc, scope, texts, test, yes, no)?;
-    let of = common_type(type_of(&yes), type_of(&no));
-    let test = Boxed::new(alloc, test)?;
-    let yes = Boxed::new(alloc, yes)?;
-    let no = Boxed::new(alloc, no)?;
+    let of = common_type(type_of(yes.get()), type_of(no.get()));
     Ok(typed(PKind::Choose { test, yes, no }, of, line))
 }
 
@@ -381,9 +385,7 @@ fn comma(
         line)).value used texts.old) result texts.new }
 {
     let (left, right) = both(alloc, scope, texts, left, false, right, used)?;
-    let of = right.of;
-    let left = Boxed::new(alloc, left)?;
-    let right = Boxed::new(alloc, right)?;
+    let of = right.get().of;
     Ok(PExpr {
         kind: PKind::Comma { left, right },
         of,
@@ -408,9 +410,7 @@ fn assign(
         line)).value true texts.old) result texts.new }
 {
     let (place, value) = stored(alloc, scope, texts, place, value)?;
-    let of = place.of;
-    let place = Boxed::new(alloc, place)?;
-    let value = Boxed::new(alloc, value)?;
+    let of = place.get().of;
     Ok(PExpr {
         kind: PKind::Assign { op, place, value },
         of,

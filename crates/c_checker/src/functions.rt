@@ -13,7 +13,7 @@ use crate::headings::{Heading, Headings};
 use crate::heads::head;
 use crate::program::program_of;
 use crate::state::{Body, File};
-use crate::stmts::function_body;
+use crate::stmts::{Within, function_body};
 use c_tree::{Function, Head, Item, Program, Slot, Stmt, Target, Tree};
 use nm_base::{Ctype, List, WantOfMemory};
 use std::alloc::Global;
@@ -45,7 +45,7 @@ fn enter_params(
             name: param.name.copy(alloc)?,
             thing: variable(Target::Slot(number), param.of, param.array_param),
         };
-        entries.push(entry)?;
+        entries.push(alloc, entry)?;
         number = number.checked_add(1).ok_or(WantOfMemory)?;
         params = rest;
     }
@@ -84,14 +84,12 @@ fn check_body(
     let name = head.name.copy(alloc)?;
     let from = file.entries.len();
     let mut inside = body_begin(alloc, file, params.as_slice())?;
-    let made = function_body(
+    let within = Within {
         alloc,
-        file.headings.as_slice(),
-        head.result,
-        &mut inside,
-        body,
-        from,
-    )?;
+        functions: file.headings.as_slice(),
+        returns: head.result,
+    };
+    let made = function_body(&within, &mut inside, body, from)?;
     inside.entries.truncate(from);
     file.texts = inside.texts;
     file.entries = inside.entries;

@@ -87,7 +87,7 @@ fn add_global(
         name: d.name.copy(alloc)?,
         thing,
     };
-    file.entries.push(entry)?;
+    file.entries.push(alloc, entry)?;
     Ok(())
 }
 

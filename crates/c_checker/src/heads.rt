@@ -244,7 +244,7 @@ fn first_head(
             result: head.result,
         },
     };
-    file.entries.push(entry)?;
+    file.entries.push(alloc, entry)?;
     Ok(number)
 }
 

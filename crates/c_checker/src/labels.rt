@@ -1,6 +1,8 @@
 //! The labels of a switch.
 
-ghost use Rattle.std.specs.Prelude.{◌≡◌, List, [], ◌∷◌, ◌++◌, Some, None, IfOk, IfErr, OnOk, OnErr};
+ghost use Rattle.std.specs.Prelude.{◌≡◌, ℕ, List, [], ◌∷◌, ◌++◌, Some, None, cond, true, nat_eq, IfOk, IfErr, OnOk, OnErr};
+ghost use Rattle.std.specs.Ordering.{nat_cmp};
+ghost use Rattle.std.specs.BTreeSet.{contains, IsUnchanged};
 ghost use Rattle.c_checker.specs.declared.state.Body.{Body};
 ghost use Rattle.c_checker.specs.Found.{Gives, Refuses, Tests, fine};
 ghost use Rattle.c_checker.specs.Scope.{Names};
@@ -11,21 +13,46 @@ use crate::fault::CheckFault;
 use c_tree::{Label, PLabel};
 use nm_base::List;
 use std::alloc::{AllocError, Global};
+use std::collections::BTreeSet;
 use std::marker::Model;
 
 /// The labels of a switch so far.
 #[derive(Drop)]
 pub struct Labels {
     list: Vec<PLabel>,
+    /// The patterns of the cases.
+    cases: BTreeSet<u32>,
+    has_default: bool,
 }
 
 impl Model for Labels {
     ghost use Rattle.std.specs.Prelude.{List};
     ghost use Rattle.c_tree.specs.declared.program.PLabel.{PLabel};
+    ghost use Rattle.c_checker.specs.Patterns.{Knows};
 
     ghost Value = { List PLabel };
 
     ghost view = { λ l. l.list.items };
+
+    ghost invariant = { λ l. Knows l.list.items l.cases l.has_default };
+}
+
+/// Puts a label after the others.
+fn add_label(list: &mut Vec<PLabel>, label: PLabel) -> Result<(), AllocError>
+    ensures ok { OnOk result (list.new.items ≡ list.old.items ++ label ∷ []) }
+    ensures err { OnErr result (list.new.items ≡ list.old.items) }
+{
+    list.push(label)?;
+    Ok(())
+}
+
+/// Puts a pattern among those of the cases.
+fn add_case(cases: &mut BTreeSet<u32>, bits: u32) -> Result<(), AllocError>
+    ensures ok { OnOk result ((n : ℕ) → contains nat_cmp cases.new n ≡ cond (nat_eq bits n) true (contains nat_cmp cases.old n)) }
+    ensures err { OnErr result (IsUnchanged cases.old cases.new) }
+{
+    cases.insert(bits)?;
+    Ok(())
 }
 
 impl Labels {
@@ -34,6 +61,8 @@ impl Labels {
     {
         Labels {
             list: Vec::new(alloc),
+            cases: BTreeSet::new(alloc),
+            has_default: false,
         }
     }
 
@@ -41,36 +70,32 @@ impl Labels {
         ensures ok { OnOk result (self.new ≡ self.old ++ label ∷ []) }
         ensures err { OnErr result (self.new ≡ self.old) }
     {
-        self.list.push(label)?;
-        Ok(())
+        add_label(&mut self.list, label)?;
+        match label.value {
+            None => {
+                self.has_default = true;
+                Ok(())
+            }
+            Some(bits) => match add_case(&mut self.cases, bits) {
+                Ok(()) => Ok(()),
+                Err(e) => {
+                    let _ = self.list.pop();
+                    Err(e)
+                }
+            },
+        }
     }
 
     fn has_default(&self) -> bool
         ensures { result ≡ spec.has_default self.now }
     {
-        let mut labels = self.list.as_slice();
-        while let [label, rest @ ..] = labels {
-            if label.value.is_none() {
-                return true;
-            }
-            labels = rest;
-        }
-        false
+        self.has_default
     }
 
     fn has_case(&self, bits: u32) -> bool
         ensures { result ≡ spec.has_case self.now bits }
     {
-        let mut labels = self.list.as_slice();
-        while let [label, rest @ ..] = labels {
-            if let Some(other) = label.value {
-                if other == bits {
-                    return true;
-                }
-            }
-            labels = rest;
-        }
-        false
+        self.cases.contains(&bits)
     }
 }
 

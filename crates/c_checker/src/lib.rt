@@ -22,12 +22,9 @@ mod state;
 mod stmts;
 mod types;
 
-pub use entries::{Entries, Entry, Thing};
 pub use fault::CheckFault;
 pub use functions::check;
-pub use headings::{Heading, Headings};
 pub use laws::law_of_checked;
-pub use state::{Around, Body, File};
 
 #[cfg(test)]
 mod tests;

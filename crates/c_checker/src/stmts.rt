@@ -15,6 +15,16 @@ use nm_base::{Ctype, List};
 use sqlite_items::Boxed;
 use std::alloc::Global;
 
+/// What the statements of a function stand within.
+#[derive(Clone, Copy)]
+pub struct Within<'a> {
+    pub alloc: Global,
+    /// The functions that are declared.
+    pub functions: &'a [Heading],
+    /// The type that the function returns.
+    pub returns: Option<Ctype>,
+}
+
 fn outside() -> Around
     ensures { result ≡ spec.outside }
 {
@@ -79,19 +89,17 @@ fn continue_stmt(around: Around, line: u32) -> Result<PStmt, CheckFault>
 
 #[tactic(auto, using(crate::proofs::Found::refuses_left))]
 fn return_stmt(
-    alloc: Global,
-    functions: &[Heading],
-    returns: Option<Ctype>,
+    within: &Within<'_>,
     body: &mut Body,
     value: &Option<Expr>,
     line: u32,
 ) -> Result<PStmt, CheckFault>
-    ensures { Gives (spec.return_stmt functions.now returns value.now line body.old) result body.new }
+    ensures { Gives (spec.return_stmt within.now.functions.now within.now.returns value.now line body.old) result body.new }
 {
-    if value.is_some() && returns.is_none() {
+    if value.is_some() && within.returns.is_none() {
         return Err(CheckFault::VoidValue { line });
     }
-    let value = optional(alloc, functions, body, value, true)?;
+    let value = optional(within.alloc, within.functions, body, value, true)?;
     Ok(PStmt::Return { value, line })
 }
 
@@ -117,9 +125,7 @@ fn controls(
 #[cycle(stmt)]
 #[tactic(auto, using(crate::proofs::Found::refuses_left))]
 fn block_from(
-    alloc: Global,
-    functions: &[Heading],
-    returns: Option<Ctype>,
+    within: &Within<'_>,
     body: &mut Body,
     from: usize,
     vars: &[Vars],
@@ -127,32 +133,47 @@ fn block_from(
     line: u32,
     around: Around,
 ) -> Result<PStmt, CheckFault>
-    ensures { Gives (spec.block_from functions.now from vars.now (map (stmt_of functions.now returns) list.now) line around body.old) result body.new }
+    ensures { Gives (spec.block_from within.now.functions.now from vars.now
+        (map (stmt_of within.now.functions.now within.now.returns) list.now) line around body.old) result body.new }
 {
     let visible = body.entries.len();
-    let locals = begin_block(alloc, functions, body, from, vars)?;
-    let list = sequence(alloc, functions, returns, body, list, around)?;
+    let locals = begin_block(within.alloc, within.functions, body, from, vars)?;
+    let list = sequence(within, body, list, around)?;
     body.entries.truncate(visible);
     Ok(PStmt::Block { locals, list, line })
+}
+
+/// A block in a function's body.
+#[cycle(stmt)]
+fn block(
+    within: &Within<'_>,
+    body: &mut Body,
+    vars: &[Vars],
+    list: &[Stmt],
+    line: u32,
+    around: Around,
+) -> Result<PStmt, CheckFault>
+    ensures { Gives (spec.block within.now.functions.now vars.now (map (stmt_of within.now.functions.now within.now.returns) list.now) line around body.old) result body.new }
+{
+    let from = body.entries.len();
+    block_from(within, body, from, vars, list, line, around)
 }
 
 /// Statements in order.
 #[cycle(stmt)]
 #[tactic(auto, using(crate::proofs::Found::refuses_left))]
 fn sequence(
-    alloc: Global,
-    functions: &[Heading],
-    returns: Option<Ctype>,
+    within: &Within<'_>,
     body: &mut Body,
     mut list: &[Stmt],
     around: Around,
 ) -> Result<List<PStmt>, CheckFault>
-    ensures { Gives (spec.sequence [] (map (stmt_of functions.now returns) list.entry.now) around body.old) result body.new }
+    ensures { Gives (spec.sequence [] (map (stmt_of within.now.functions.now within.now.returns) list.entry.now) around body.old) result body.new }
 {
-    let mut done = List::from_vec(Vec::new(alloc));
+    let mut done = List::from_vec(Vec::new(within.alloc));
     while let [first, rest @ ..] = list {
-        let made = stmt(alloc, functions, returns, body, first, around)?;
-        done.push(alloc, made)?;
+        let made = stmt(within, body, first, around)?;
+        done.push(within.alloc, made)?;
         list = rest;
     }
     Ok(done)
@@ -162,32 +183,28 @@ fn sequence(
 #[cycle(stmt)]
 #[tactic(auto, using(crate::proofs::Found::refuses_left))]
 fn part(
-    alloc: Global,
-    functions: &[Heading],
-    returns: Option<Ctype>,
+    within: &Within<'_>,
     body: &mut Body,
     inner: &Stmt,
     around: Around,
 ) -> Result<Boxed<PStmt>, CheckFault>
-    ensures { Gives ((stmt_of functions.now returns inner.now).check around body.old) result body.new }
+    ensures { Gives ((stmt_of within.now.functions.now within.now.returns inner.now).check around body.old) result body.new }
 {
-    let made = stmt(alloc, functions, returns, body, inner, around)?;
-    Ok(Boxed::new(alloc, made)?)
+    let made = stmt(within, body, inner, around)?;
+    Ok(Boxed::new(within.alloc, made)?)
 }
 
 #[cycle(stmt)]
 fn else_part(
-    alloc: Global,
-    functions: &[Heading],
-    returns: Option<Ctype>,
+    within: &Within<'_>,
     body: &mut Body,
     inner: &Option<Boxed<Stmt>>,
     around: Around,
 ) -> Result<Option<Boxed<PStmt>>, CheckFault>
-    ensures { Gives (spec.else_part (option_map (stmt_of functions.now returns) inner.now) around body.old) result body.new }
+    ensures { Gives (spec.else_part (option_map (stmt_of within.now.functions.now within.now.returns) inner.now) around body.old) result body.new }
 {
     match inner {
-        Some(inner) => Ok(Some(part(alloc, functions, returns, body, inner.get(), around)?)),
+        Some(inner) => Ok(Some(part(within, body, inner.get(), around)?)),
         None => Ok(None),
     }
 }
@@ -195,9 +212,7 @@ fn else_part(
 #[cycle(stmt)]
 #[tactic(auto, using(crate::proofs::Found::refuses_left))]
 fn if_stmt(
-    alloc: Global,
-    functions: &[Heading],
-    returns: Option<Ctype>,
+    within: &Within<'_>,
     body: &mut Body,
     test: &Expr,
     yes: &Stmt,
@@ -205,11 +220,12 @@ fn if_stmt(
     line: u32,
     around: Around,
 ) -> Result<PStmt, CheckFault>
-    ensures { Gives (spec.if_stmt functions.now test.now (stmt_of functions.now returns yes.now) (option_map (stmt_of functions.now returns) no.now) line around body.old) result body.new }
+    ensures { Gives (spec.if_stmt within.now.functions.now test.now (stmt_of within.now.functions.now within.now.returns yes.now)
+        (option_map (stmt_of within.now.functions.now within.now.returns) no.now) line around body.old) result body.new }
 {
-    let test = expression(alloc, functions, body, test, true)?;
-    let yes = part(alloc, functions, returns, body, yes, around)?;
-    let no = else_part(alloc, functions, returns, body, no, around)?;
+    let test = expression(within.alloc, within.functions, body, test, true)?;
+    let yes = part(within, body, yes, around)?;
+    let no = else_part(within, body, no, around)?;
     Ok(PStmt::If {
         test,
         yes,
@@ -221,18 +237,16 @@ fn if_stmt(
 #[cycle(stmt)]
 #[tactic(auto, using(crate::proofs::Found::refuses_left))]
 fn while_stmt(
-    alloc: Global,
-    functions: &[Heading],
-    returns: Option<Ctype>,
+    within: &Within<'_>,
     body: &mut Body,
     test: &Expr,
     inner: &Stmt,
     line: u32,
 ) -> Result<PStmt, CheckFault>
-    ensures { Gives (spec.while_stmt functions.now test.now (stmt_of functions.now returns inner.now) line body.old) result body.new }
+    ensures { Gives (spec.while_stmt within.now.functions.now test.now (stmt_of within.now.functions.now within.now.returns inner.now) line body.old) result body.new }
 {
-    let test = expression(alloc, functions, body, test, true)?;
-    let inner = part(alloc, functions, returns, body, inner, inside_loop())?;
+    let test = expression(within.alloc, within.functions, body, test, true)?;
+    let inner = part(within, body, inner, inside_loop())?;
     Ok(PStmt::While {
         test,
         body: inner,
@@ -243,18 +257,16 @@ fn while_stmt(
 #[cycle(stmt)]
 #[tactic(auto, using(crate::proofs::Found::refuses_left))]
 fn do_stmt(
-    alloc: Global,
-    functions: &[Heading],
-    returns: Option<Ctype>,
+    within: &Within<'_>,
     body: &mut Body,
     inner: &Stmt,
     test: &Expr,
     line: u32,
 ) -> Result<PStmt, CheckFault>
-    ensures { Gives (spec.do_stmt functions.now (stmt_of functions.now returns inner.now) test.now line body.old) result body.new }
+    ensures { Gives (spec.do_stmt within.now.functions.now (stmt_of within.now.functions.now within.now.returns inner.now) test.now line body.old) result body.new }
 {
-    let inner = part(alloc, functions, returns, body, inner, inside_loop())?;
-    let test = expression(alloc, functions, body, test, true)?;
+    let inner = part(within, body, inner, inside_loop())?;
+    let test = expression(within.alloc, within.functions, body, test, true)?;
     Ok(PStmt::Do {
         body: inner,
         test,
@@ -265,9 +277,7 @@ fn do_stmt(
 #[cycle(stmt)]
 #[tactic(auto, using(crate::proofs::Found::refuses_left))]
 fn for_stmt(
-    alloc: Global,
-    functions: &[Heading],
-    returns: Option<Ctype>,
+    within: &Within<'_>,
     body: &mut Body,
     first: &Option<Expr>,
     test: &Option<Expr>,
@@ -275,10 +285,11 @@ fn for_stmt(
     inner: &Stmt,
     line: u32,
 ) -> Result<PStmt, CheckFault>
-    ensures { Gives (spec.for_stmt functions.now first.now test.now third.now (stmt_of functions.now returns inner.now) line body.old) result body.new }
+    ensures { Gives (spec.for_stmt within.now.functions.now first.now test.now third.now
+        (stmt_of within.now.functions.now within.now.returns inner.now) line body.old) result body.new }
 {
-    let (first, test, third) = controls(alloc, functions, body, first, test, third)?;
-    let inner = part(alloc, functions, returns, body, inner, inside_loop())?;
+    let (first, test, third) = controls(within.alloc, within.functions, body, first, test, third)?;
+    let inner = part(within, body, inner, inside_loop())?;
     Ok(PStmt::For {
         first,
         test,
@@ -292,24 +303,22 @@ fn for_stmt(
 #[cycle(stmt)]
 #[tactic(auto, using(crate::proofs::Found::refuses_left, crate::proofs::StmtForms::arm_form))]
 fn arm(
-    alloc: Global,
-    functions: &[Heading],
-    returns: Option<Ctype>,
+    within: &Within<'_>,
     body: &mut Body,
     arm: &Arm,
     before: &mut Labels,
     line: u32,
     around: Around,
 ) -> Result<PArm, CheckFault>
-    ensures found { Gives ((arm_of functions.now returns arm.now).check before.old line around body.old) result body.new }
+    ensures found { Gives ((arm_of within.now.functions.now within.now.returns arm.now).check before.old line around body.old) result body.new }
     ensures added { IfOk result (λ y. before.new ≡ before.old ++ y.labels) }
 {
     let these = arm.labels.as_slice();
     if these.is_empty() {
         return Err(CheckFault::NotConstant { line });
     }
-    let labels = make_labels(alloc, before, these)?;
-    let list = sequence(alloc, functions, returns, body, arm.list.as_slice(), around)?;
+    let labels = make_labels(within.alloc, before, these)?;
+    let list = sequence(within, body, arm.list.as_slice(), around)?;
     Ok(PArm { labels, list })
 }
 
@@ -317,30 +326,19 @@ fn arm(
 #[cycle(stmt)]
 #[tactic(auto, using(crate::proofs::Found::refuses_left))]
 fn arms(
-    alloc: Global,
-    functions: &[Heading],
-    returns: Option<Ctype>,
+    within: &Within<'_>,
     body: &mut Body,
     mut arms: &[Arm],
     line: u32,
     around: Around,
 ) -> Result<List<PArm>, CheckFault>
-    ensures { Gives (spec.arms (map (arm_of functions.now returns) arms.entry.now) [] [] line around body.old) result body.new }
+    ensures { Gives (spec.arms (map (arm_of within.now.functions.now within.now.returns) arms.entry.now) [] [] line around body.old) result body.new }
 {
-    let mut before = Labels::new(alloc);
-    let mut done = List::from_vec(Vec::new(alloc));
+    let mut before = Labels::new(within.alloc);
+    let mut done = List::from_vec(Vec::new(within.alloc));
     while let [first, rest @ ..] = arms {
-        let made = arm(
-            alloc,
-            functions,
-            returns,
-            body,
-            first,
-            &mut before,
-            line,
-            around,
-        )?;
-        done.push(alloc, made)?;
+        let made = arm(within, body, first, &mut before, line, around)?;
+        done.push(within.alloc, made)?;
         arms = rest;
     }
     Ok(done)
@@ -349,27 +347,17 @@ fn arms(
 #[cycle(stmt)]
 #[tactic(auto, using(crate::proofs::Found::refuses_left))]
 fn switch_stmt(
-    alloc: Global,
-    functions: &[Heading],
-    returns: Option<Ctype>,
+    within: &Within<'_>,
     body: &mut Body,
     on: &Expr,
     list: &[Arm],
     line: u32,
     around: Around,
 ) -> Result<PStmt, CheckFault>
-    ensures { Gives (spec.switch_stmt functions.now on.now (map (arm_of functions.now returns) list.now) line around body.old) result body.new }
+    ensures { Gives (spec.switch_stmt within.now.functions.now on.now (map (arm_of within.now.functions.now within.now.returns) list.now) line around body.old) result body.new }
 {
-    let on = expression(alloc, functions, body, on, true)?;
-    let arms = arms(
-        alloc,
-        functions,
-        returns,
-        body,
-        list,
-        line,
-        inside_switch(around),
-    )?;
+    let on = expression(within.alloc, within.functions, body, on, true)?;
+    let arms = arms(within, body, list, line, inside_switch(around))?;
     Ok(PStmt::Switch { on, arms, line })
 }
 
@@ -377,24 +365,18 @@ fn switch_stmt(
 #[cycle(stmt)]
 #[tactic(auto, using(crate::proofs::StmtForms::stmt_empty))]
 pub fn stmt(
-    alloc: Global,
-    functions: &[Heading],
-    returns: Option<Ctype>,
+    within: &Within<'_>,
     body: &mut Body,
     s: &Stmt,
     around: Around,
 ) -> Result<PStmt, CheckFault>
-    ensures { Gives ((stmt_of functions.now returns s.now).check around body.old) result body.new }
+    ensures { Gives ((stmt_of within.now.functions.now within.now.returns s.now).check around body.old) result body.new }
 {
     match s {
         Stmt::Block { locals, list, line } => {
-            let from = body.entries.len();
-            block_from(
-                alloc,
-                functions,
-                returns,
+            block(
+                within,
                 body,
-                from,
                 locals.as_slice(),
                 list.as_slice(),
                 *line,
@@ -402,123 +384,86 @@ pub fn stmt(
             )
         }
         Stmt::Empty { line } => Ok(PStmt::Empty { line: *line }),
-        Stmt::Run { part, line } => run(alloc, functions, body, part, *line),
+        Stmt::Run { part, line } => run(within.alloc, within.functions, body, part, *line),
         Stmt::If {
             test,
             yes,
             no,
             line,
-        } => if_stmt(
-            alloc,
-            functions,
-            returns,
-            body,
-            test,
-            yes.get(),
-            no,
-            *line,
-            around,
-        ),
+        } => if_stmt(within, body, test, yes.get(), no, *line, around),
         Stmt::While {
             test,
             body: inner,
             line,
-        } => while_stmt(alloc, functions, returns, body, test, inner.get(), *line),
+        } => while_stmt(within, body, test, inner.get(), *line),
         Stmt::Do {
             body: inner,
             test,
             line,
-        } => do_stmt(alloc, functions, returns, body, inner.get(), test, *line),
+        } => do_stmt(within, body, inner.get(), test, *line),
         Stmt::For {
             first,
             test,
             third,
             body: inner,
             line,
-        } => for_stmt(
-            alloc,
-            functions,
-            returns,
-            body,
-            first,
-            test,
-            third,
-            inner.get(),
-            *line,
-        ),
+        } => for_stmt(within, body, first, test, third, inner.get(), *line),
         Stmt::Break { line } => break_stmt(around, *line),
         Stmt::Continue { line } => continue_stmt(around, *line),
-        Stmt::Return { value, line } => return_stmt(alloc, functions, returns, body, value, *line),
+        Stmt::Return { value, line } => return_stmt(within, body, value, *line),
         Stmt::Switch { on, arms, line } => {
-            switch_stmt(
-                alloc,
-                functions,
-                returns,
-                body,
-                on,
-                arms.as_slice(),
-                *line,
-                around,
-            )
+            switch_stmt(within, body, on, arms.as_slice(), *line, around)
         }
     }
 }
 
 /// The list of one statement.
 #[tactic(auto, using(crate::proofs::Found::refuses_left))]
-fn only(
-    alloc: Global,
-    functions: &[Heading],
-    returns: Option<Ctype>,
-    body: &mut Body,
-    s: &Stmt,
-) -> Result<List<PStmt>, CheckFault>
-    ensures { Gives (spec.sequence [] (record { check = (stmt_of functions.now returns s.now).check; body = λ _. (stmt_of functions.now returns s.now).check spec.outside } ∷
+fn only(within: &Within<'_>, body: &mut Body, s: &Stmt) -> Result<List<PStmt>, CheckFault>
+    ensures { Gives (spec.sequence [] (record {
+      check = (stmt_of within.now.functions.now within.now.returns s.now).check;
+      body = λ _.
+          (stmt_of within.now.functions.now within.now.returns s.now).check spec.outside;
+    } ∷
         []) spec.outside body.old) result body.new }
 {
-    let made = stmt(alloc, functions, returns, body, s, outside())?;
-    let mut list = List::from_vec(Vec::new(alloc));
-    list.push(alloc, made)?;
+    let made = stmt(within, body, s, outside())?;
+    let mut list = List::from_vec(Vec::new(within.alloc));
+    list.push(within.alloc, made)?;
     Ok(list)
 }
 
 /// A block of one statement, as a function's body.
 #[tactic(auto, using(crate::proofs::Found::refuses_left))]
 fn alone(
-    alloc: Global,
-    functions: &[Heading],
-    returns: Option<Ctype>,
+    within: &Within<'_>,
     body: &mut Body,
     s: &Stmt,
     from: usize,
     line: u32,
 ) -> Result<PStmt, CheckFault>
-    ensures { Gives (spec.alone functions.now (stmt_of functions.now returns s.now).check line from body.old) result body.new }
+    ensures { Gives (spec.alone within.now.functions.now (stmt_of within.now.functions.now within.now.returns s.now).check line from body.old) result body.new }
 {
     let visible = body.entries.len();
-    let locals = begin_block(alloc, functions, body, from, &[])?;
-    let list = only(alloc, functions, returns, body, s)?;
+    let locals = begin_block(within.alloc, within.functions, body, from, &[])?;
+    let list = only(within, body, s)?;
     body.entries.truncate(visible);
     Ok(PStmt::Block { locals, list, line })
 }
 
 /// A function's body, in whose block the names begin at the entry `from`.
 pub fn function_body(
-    alloc: Global,
-    functions: &[Heading],
-    returns: Option<Ctype>,
+    within: &Within<'_>,
     body: &mut Body,
     s: &Stmt,
     from: usize,
 ) -> Result<PStmt, CheckFault>
-    ensures { Gives ((stmt_of functions.now returns s.now).body from body.old) result body.new }
+    ensures { Gives ((stmt_of within.now.functions.now within.now.returns s.now).body from body.old) result body.new }
 {
     match s {
         Stmt::Block { locals, list, line } => {
             block_from(
-                alloc,
-                functions,
-                returns,
+                within,
                 body,
                 from,
                 locals.as_slice(),
@@ -536,6 +481,6 @@ pub fn function_body(
         | Stmt::Break { line }
         | Stmt::Continue { line }
         | Stmt::Return { line, .. }
-        | Stmt::Switch { line, .. } => alone(alloc, functions, returns, body, s, from, *line),
+        | Stmt::Switch { line, .. } => alone(within, body, s, from, *line),
     }
 }

@@ -1,5 +1,6 @@
 -- Each piece has a byte, and ends within its text.
-use Rattle.std.proofs.Common.{◌≡◌, ℕ, ◌+◌, ◌<◌, ◌≤◌, Bool, true, false, ◌&&◌, ◌⊎◌, inl, inr, List, [], ◌∷◌, length, take, drop, Option, Some, None, Result, Ok, Err, refl, ap, subst, arith, cond, nat_eq, length-drop}
+use Rattle.std.proofs.Common.{◌≡◌, ℕ, ◌+◌, ◌<◌, ◌≤◌, Bool, true, false, ◌&&◌, ◌⊎◌, inl, inr, List, [], ◌∷◌, length, take, drop, Option, Some, None, Result, Ok, Err, refl, ap, subst, arith, cond}
+use Rattle.std.proofs.Common.{nat_eq, length-drop}
 use Rattle.std.specs.Prelude.{◌==◌, not, nat_lt, option_map, codes, take_while}
 use Rattle.std.specs.List.{starts_with}
 use Rattle.std.specs.Char.{is_digit, is_ascii_digit}
@@ -14,7 +15,8 @@ use Rattle.c_lexer.specs.declared.piece.Piece.{Piece}
 use Rattle.c_lexer.specs.declared.token.Key.{Key}
 use Rattle.c_lexer.specs.Bytes.{is_blank, begins_name, is_name_byte, is_number_byte}
 use Rattle.c_lexer.specs.Constants.{digits_at, escape_at}
-use Rattle.c_lexer.specs.Lexemes.{or_fault, gap, comment_end, comment_at, is_line_start, is_include, hash_at, name_at, number_at, closing_at, key_in, word_with, character_byte_at, character_at, text_bytes_at, text_at, mark_in, mark_at, piece_at}
+use Rattle.c_lexer.specs.Lexemes.{or_fault, gap, comment_end, comment_at, is_line_start, is_include, hash_at, name_at, number_at, closing_at, key_in, word_with, character_byte_at, character_at}
+use Rattle.c_lexer.specs.Lexemes.{text_bytes_at, text_at, mark_in, mark_at, piece_at}
 use Rattle.c_lexer.specs.Tables.{marks, keywords}
 use Rattle.c_lexer.specs.Spelling.{Gives}
 use Rattle.std.specs.Prelude.{IfOk}
@@ -174,6 +176,7 @@ piece_fits line before (b ∷ rest) p e =
     ]
 
 -- what stands at a place ends within the text
-pub piece_within : (line at : ℕ) (text : List ℕ) (r : Result Piece LexFault) → at < length text → Gives (λ p. p) r (piece_at line (take at text) (drop at text)) → IfOk r (λ p. (0 < p.width) × (at + p.width ≤ length text))
+pub piece_within : (line at : ℕ) (text : List ℕ) (r : Result Piece LexFault) → at < length text → Gives (λ p. p) r (piece_at line (take at text) (drop at text))
+    → IfOk r (λ p. (0 < p.width) × (at + p.width ≤ length text))
 piece_within line at text (Ok p) lt given = let h = piece_fits line (take at text) (drop at text) p given in (h.0, omega (arith, h.1, length-drop at text))
 piece_within line at text (Err f) lt given = tt

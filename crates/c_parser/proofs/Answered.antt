@@ -1,10 +1,10 @@
 -- What `parse` answers, by what is read.
-use Rattle.std.proofs.Common.{◌≡◌, ℕ, zero, suc, ◌+◌, ◌<◌, ◌≤◌, List, [], ◌∷◌, length, Result, Ok, Err, refl, sym, ap, ◌∙◌, subst, arith}
+use Rattle.std.proofs.Common.{◌≡◌, ℕ, ◌<◌, ◌≤◌, List, [], ◌∷◌, length, Result, Ok, Err, ap, subst, arith}
 use Rattle.c_lexer.specs.declared.token.Token.{Token}
 use Rattle.c_tree.specs.declared.tree.Item.{Item}
 use Rattle.c_tree.specs.declared.tree.Tree.{Tree}
 use Rattle.c_parser.specs.Tokens.{nesting}
-use Rattle.c_parser.specs.Unit.{UnitOf, Derives, unit_height}
+use Rattle.c_parser.specs.Unit.{UnitOf, unit_height}
 use Rattle.c_parser.specs.Faults.{IsNoUnit}
 use Rattle.c_parser.specs.declared.fault.Refusal.{Refusal}
 use Rattle.c_parser.specs.declared.fault.Refusal.TheVariants.{Syntax, Deep}

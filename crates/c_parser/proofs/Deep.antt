@@ -21,7 +21,8 @@ use Rattle.c_parser.specs.Walk.{is_text, mark}
 use Rattle.c_parser.specs.Expr.{part_of}
 use Rattle.c_parser.specs.Reader.{Gives, OnDeep, Failure, Wrong, TooDeep, Reader, ◌>>=◌, if_found, at_mark, expected, expect}
 use Rattle.c_parser.specs.ReadExpr as read
-use Rattle.c_parser.specs.ReadExpr.{is_separator, join_at, assignment_at, line_at, suffixes, suffixed, parenthesized, element, argument, arguments_from, call, named_by, primary_by, primary, postfix, unary, unary_of, joins, choice, choices, assignment, value_of, more, at_level, read_expr}
+use Rattle.c_parser.specs.ReadExpr.{is_separator, join_at, assignment_at, line_at, suffixes, suffixed, parenthesized, element, argument, arguments_from, call, named_by, primary_by, primary, postfix}
+use Rattle.c_parser.specs.ReadExpr.{unary, unary_of, joins, choice, choices, assignment, value_of, more, at_level, read_expr}
 use Rattle.c_parser.proofs.Steps.{mark_takes, mark_is, at_mark_some}
 use Rattle.c_parser.proofs.Sound.{Sound, Lower, argument_sound, primary_sound, suffixed_sound, joined_sound, join_found, join_mark, at_level_sound, expr_sound, assignment_found}
 use Rattle.c_parser.proofs.Nesting.{costs_token, costs_any, costs_mark, join_nests, expr_nests, costs_expr}
@@ -98,7 +99,8 @@ assign_nests m.Colon o e = absurd (not_assign o m.Colon e (λ k. let f : mark_le
 assign_nests _ o e = refl
 
 -- each suffix is a nesting token
-suffixes_deeps : (below n k : ℕ) (start ts : List Token) (part : Operand) → below + 1 < n + part.height → nesting start ≤ k → Sound (suc below) 0 start part ts → Deeps (suc below ≤ k) (suffixes below n part ts)
+suffixes_deeps : (below n k : ℕ) (start ts : List Token) (part : Operand) → below + 1 < n + part.height → nesting start ≤ k → Sound (suc below) 0 start part ts
+    → Deeps (suc below ≤ k) (suffixes below n part ts)
 unfolding suffixes
 suffixes_deeps below zero k start ts part enough le s = absurd (omega (arith, enough, s.low))
 suffixes_deeps below (suc n) k start ts part enough le s =
@@ -142,7 +144,8 @@ module _ (below : ℕ) (lower : ℕ → Reader Operand) (reads : Lower below low
       deeps_found P (at_mark is_separator x.1) (Err Wrong) _ (deeps_wrong P) (λ y found.
       let f = at_mark_some is_separator x.1 y.0 y.1 found in
       let g = fewer f.0 x.1 y.1 (mark_is f.0 x.1 y.1 f.1) in
-      deeps_if P y.0 _ _ (λ _. arguments_from_deeps n k (before ++ x.0.expr ∷ []) (max height x.0.height) y.1 (omega (arith, le, g, argument_falls ts x.1 x.0.expr a.spells.walk))) (λ _. deeps_ok P _)))
+      deeps_if P y.0 _ _ (λ _. arguments_from_deeps n k (before ++ x.0.expr ∷ []) (max height x.0.height) y.1 (omega (arith, le, g, argument_falls ts x.1 x.0.expr a.spells.walk)))
+      (λ _. deeps_ok P _)))
 
   arguments_deeps : (k : ℕ) (ts : List Token) → nesting ts + 1 ≤ k → Deeps (suc below ≤ k) (read.arguments below lower ts)
   unfolding read.arguments
@@ -153,7 +156,8 @@ module _ (below : ℕ) (lower : ℕ → Reader Operand) (reads : Lower below low
   unfolding call
   call_deeps name line k ts le = let P : Type 0 = suc below ≤ k in deeps_bind P (read.arguments below lower ts) _ (arguments_deeps k ts le) (λ y r. deeps_ok P _)
 
-  named_mark_deeps : (n : Mark) (name : List ℕ) (line k : ℕ) (u : Token) (us : List Token) → u.kind ≡ tok.Mark n → nesting (u ∷ us) ≤ k → Deeps (suc below ≤ k) (named_by below lower (tok.Mark n) name line us (u ∷ us))
+  named_mark_deeps : (n : Mark) (name : List ℕ) (line k : ℕ) (u : Token) (us : List Token) → u.kind ≡ tok.Mark n → nesting (u ∷ us) ≤ k
+      → Deeps (suc below ≤ k) (named_by below lower (tok.Mark n) name line us (u ∷ us))
   named_mark_deeps m.LeftBracket name line k u us e le = let f = one_fewer m.LeftBracket (u ∷ us) us refl (mark_takes m.LeftBracket u us e) in element_deeps name line k us (omega (arith, f, le))
   named_mark_deeps m.LeftParen name line k u us e le = let f = one_fewer m.LeftParen (u ∷ us) us refl (mark_takes m.LeftParen u us e) in call_deeps name line k us (omega (arith, f, le))
   named_mark_deeps _ name line k u us e le = deeps_ok (suc below ≤ k) _
@@ -196,7 +200,8 @@ module _ (below : ℕ) (lower : ℕ → Reader Operand) (reads : Lower below low
       let g = one_fewer f.0 ts x.1 (prefix_of_nests f.0 x.0 f.2) (mark_is f.0 ts x.1 f.1) in
       deeps_bind P (lower 1 x.1) _ (part_deeps 1 (nesting ts) x.1 (lit≤ tt) g) (λ part r. deeps_ok P _))
 
-  joins_deeps : (n level : ℕ) (start ts : List Token) (left : Operand) → level ≤ 14 → below + 1 < n + left.height → Sound (suc below) level start left ts → Deeps (suc below ≤ nesting start) (joins below lower n level left ts)
+  joins_deeps : (n level : ℕ) (start ts : List Token) (left : Operand) → level ≤ 14 → below + 1 < n + left.height → Sound (suc below) level start left ts
+      → Deeps (suc below ≤ nesting start) (joins below lower n level left ts)
   unfolding joins
   joins_deeps zero level start ts left top enough s = absurd (omega (arith, enough, s.low))
   joins_deeps (suc n) level start ts left top enough s =
@@ -242,7 +247,8 @@ module _ (below : ℕ) (lower : ℕ → Reader Operand) (reads : Lower below low
       (λ high. deeps_all P (Err TooDeep) (let h = ltb-true below place.height high in omega (arith, c, g, h)))
       (λ low. deeps_bind P (lower 13 x.1) _ (part_deeps 13 (nesting start) x.1 (lit≤ tt) (omega (arith, g, d))) (λ value r. deeps_ok P _)))
 
-  more_deeps : (level : ℕ) (start ts : List Token) (left : Operand) → 0 < level → level ≤ 14 → Sound (suc below) (level - 1) start left ts → Deeps (suc below ≤ nesting start) (more below lower level left ts)
+  more_deeps : (level : ℕ) (start ts : List Token) (left : Operand) → 0 < level → level ≤ 14 → Sound (suc below) (level - 1) start left ts
+      → Deeps (suc below ≤ nesting start) (more below lower level left ts)
   unfolding more
   more_deeps level start ts left lt top s = let P : Type 0 = suc below ≤ nesting start in
       deeps_if P (level == 12) (choice below lower left ts) _
@@ -266,7 +272,8 @@ expr_deeps zero level ts top = record { of = λ e. omega arith }
 expr_deeps (suc below) level ts top = level_deeps below (read_expr below) (λ n us h. expr_sound below n us h) (λ n us h. expr_deeps below n us h) level ts top
 
 -- the same, of what a function gives
-pub expr_deep : (limit level : ℕ) (ts : List Token) (r : Result (Operand × Bor (List Token)) Refusal) → level ≤ 14 → Gives (λ y. (y.0, y.1.now)) r (read_expr limit level ts) → OnDeep r (limit ≤ nesting ts)
+pub expr_deep : (limit level : ℕ) (ts : List Token) (r : Result (Operand × Bor (List Token)) Refusal) → level ≤ 14 → Gives (λ y. (y.0, y.1.now)) r (read_expr limit level ts)
+    → OnDeep r (limit ≤ nesting ts)
 expr_deep limit level ts (Ok y) top g = tt
 expr_deep limit level ts (Err (Syntax k)) top g = tt
 expr_deep limit level ts (Err (Deep k)) top g = (expr_deeps limit level ts top).of g

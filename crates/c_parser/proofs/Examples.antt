@@ -17,14 +17,13 @@ use Rattle.c_tree.specs.declared.tree.Stmt.{Stmt}
 use Rattle.c_tree.specs.declared.tree.Stmt.TheVariants as stmt
 use Rattle.c_tree.specs.declared.tree.Stmt.TheBlock.{shape-the_row-Stmt-0, hidden-the_row-Stmt-0, shape-the_row-Stmt-1, hidden-the_row-Stmt-1}
 use Rattle.c_tree.specs.declared.tree.Stmt.TheBlock.{shape-the_row-Arm-2, hidden-the_row-Arm-2}
-use Rattle.c_tree.specs.declared.tree.Arm.{Arm}
 use Rattle.c_tree.specs.declared.tree.Label.{Label}
 use Rattle.c_tree.specs.declared.tree.Head.{Head}
 use Rattle.c_tree.specs.declared.tree.Item.{Item}
 use Rattle.c_tree.specs.declared.tree.Item.TheVariants as item
 use Rattle.c_parser.specs.Walk.{each}
 use Rattle.c_parser.specs.Unit.{item_walk, item_fits, item_height}
-use Rattle.c_parser.specs.Stmt.{highest, stmt_part}
+use Rattle.c_parser.specs.Stmt.{stmt_part}
 use Rattle.c_parser.specs.Expr.{part_of}
 
 abbrev on : ℕ → Tok → Token
@@ -95,7 +94,8 @@ switches :
     × ((stmt_part (switch (case ∷ default ∷ []) (empty ∷ []))).height ≡ 2)
     × ((stmt_part (switch [] (empty ∷ []))).fits ≡ false)
     × ((stmt_part (switch (case ∷ []) [])).fits ≡ false)
-unfolding part_of stmt_part hidden shape-the_row-Expr-0 hidden-the_row-Expr-0 shape-the_row-Stmt-0 hidden-the_row-Stmt-0 shape-the_row-Stmt-1 hidden-the_row-Stmt-1 shape-the_row-Arm-2 hidden-the_row-Arm-2
+unfolding part_of stmt_part hidden shape-the_row-Expr-0 hidden-the_row-Expr-0 shape-the_row-Stmt-0 hidden-the_row-Stmt-0 shape-the_row-Stmt-1 hidden-the_row-Stmt-1 shape-the_row-Arm-2
+    hidden-the_row-Arm-2
 switches = (refl, refl, refl, refl, refl)
 
 -- int f(void) { return 1; }

@@ -1,12 +1,12 @@
 -- Lists that a loop reads one after another.
-use Rattle.std.proofs.Common.{◌≡◌, ℕ, zero, suc, ◌+◌, ◌<◌, ◌≤◌, max, Bool, true, false, List, [], ◌∷◌, ◌++◌, length, Option, Some, None, Result, Ok, Err, refl, sym, ap, ◌∙◌, arith, append_assoc}
+use Rattle.std.proofs.Common.{◌≡◌, ℕ, zero, suc, ◌+◌, ◌<◌, max, Bool, true, false, List, [], ◌∷◌, ◌++◌, length, Option, Some, None, Result, Ok, Err, refl, sym, ap, ◌∙◌, arith, append_assoc}
 use Rattle.std.specs.Prelude.{if◌then◌else◌}
 use Rattle.std.proofs.lemmas.List.{append-nil}
 use Rattle.c_lexer.specs.declared.token.Token.{Token}
 use Rattle.c_lexer.specs.declared.token.Mark.{Mark}
 use Rattle.c_parser.specs.declared.fault.Refusal.{Refusal}
 use Rattle.c_parser.specs.declared.fault.Refusal.TheVariants.{Syntax, Deep, Memory}
-use Rattle.c_parser.specs.Reader.{Failure, Wrong, TooDeep, Reader, Fails, ◌>>=◌, if_found, at_mark}
+use Rattle.c_parser.specs.Reader.{Failure, Wrong, Reader, Fails, ◌>>=◌, if_found, at_mark}
 use Rattle.c_parser.specs.ReadStmt.{consed, repeated, separated}
 
 abbrev pub Read : Type 0 → Type 0
@@ -77,7 +77,8 @@ module _ {A : Type 0} (stops : List Token → Option (List Token)) (item : Reade
       fails_as f (with_front before height (one_more n ts)) all (sym (ap (with_front before height) read) ∙ e)
       (front_fails f before height (one_more n ts) (fails_along f (item ts) (λ x. repeated stops item n x.1 >>= λ xs. consed x.0 xs) fails))
 
-  pub repeats_step : (before : List A) (height : ℕ) (ts : List Token) (all : Read A) (x : A × ℕ) (rest : List Token) → stops ts ≡ None → item ts ≡ Ok (x, rest) → length rest < length ts → Repeats before height ts all → Repeats (before ++ x.0 ∷ []) (max height x.1) rest all
+  pub repeats_step : (before : List A) (height : ℕ) (ts : List Token) (all : Read A) (x : A × ℕ) (rest : List Token) → stops ts ≡ None → item ts ≡ Ok (x, rest) → length rest < length ts
+      → Repeats before height ts all → Repeats (before ++ x.0 ∷ []) (max height x.1) rest all
   unfolding repeated
   repeats_step before height ts all x rest none read less (zero, lt, e) = absurd (omega (arith, lt))
   repeats_step before height ts all x rest none read less (suc n, lt, e) = (
@@ -103,24 +104,32 @@ module _ {A : Type 0} (more : Mark → Option Bool) (item : Reader (A × ℕ)) w
   pub separates_fail : (f : Refusal) (before : List A) (height : ℕ) (ts : List Token) (all : Read A) → Fails f (item ts) → Separates before height ts all → Fails f all
   unfolding separated
   separates_fail f before height ts all fails (zero, lt, e) = absurd (omega (arith, lt))
-  separates_fail (Syntax k) before height ts all fails (suc n, lt, e) = sym e ∙ ap (λ r. with_front before height (r >>= λ (x : (A × ℕ) × List Token). if_found (at_mark more x.1) (Err Wrong) (go_on n x.0))) fails
-  separates_fail (Deep k) before height ts all fails (suc n, lt, e) = sym e ∙ ap (λ r. with_front before height (r >>= λ (x : (A × ℕ) × List Token). if_found (at_mark more x.1) (Err Wrong) (go_on n x.0))) fails
+  separates_fail (Syntax k) before height ts all fails (suc n, lt, e) = sym e
+      ∙ ap (λ r. with_front before height (r >>= λ (x : (A × ℕ) × List Token). if_found (at_mark more x.1) (Err Wrong) (go_on n x.0))) fails
+  separates_fail (Deep k) before height ts all fails (suc n, lt, e) = sym e
+      ∙ ap (λ r. with_front before height (r >>= λ (x : (A × ℕ) × List Token). if_found (at_mark more x.1) (Err Wrong) (go_on n x.0))) fails
   separates_fail Memory before height ts all fails (suc n, lt, e) = tt
 
   -- after an item was read
-  after_item : (n : ℕ) (before : List A) (height : ℕ) (ts rest : List Token) (all : Read A) (x : A × ℕ) → item ts ≡ Ok (x, rest) → with_front before height (separated more item (suc n) ts) ≡ all → with_front before height (if_found (at_mark more rest) (Err Wrong) (go_on n x)) ≡ all
+  after_item : (n : ℕ) (before : List A) (height : ℕ) (ts rest : List Token) (all : Read A) (x : A × ℕ) → item ts ≡ Ok (x, rest) → with_front before height (separated more item (suc n) ts) ≡ all
+      → with_front before height (if_found (at_mark more rest) (Err Wrong) (go_on n x)) ≡ all
   unfolding separated
   after_item n before height ts rest all x read e = sym (ap (λ r. with_front before height (r >>= λ (y : (A × ℕ) × List Token). if_found (at_mark more y.1) (Err Wrong) (go_on n y.0))) read) ∙ e
 
-  pub separates_wrong : (before : List A) (height : ℕ) (ts : List Token) (all : Read A) (x : A × ℕ) (rest : List Token) → item ts ≡ Ok (x, rest) → at_mark more rest ≡ None → Separates before height ts all → all ≡ Err Wrong
+  pub separates_wrong : (before : List A) (height : ℕ) (ts : List Token) (all : Read A) (x : A × ℕ) (rest : List Token) → item ts ≡ Ok (x, rest) → at_mark more rest ≡ None
+      → Separates before height ts all → all ≡ Err Wrong
   separates_wrong before height ts all x rest read none (zero, lt, e) = absurd (omega (arith, lt))
-  separates_wrong before height ts all x rest read none (suc n, lt, e) = sym (after_item n before height ts rest all x read e) ∙ ap (λ o. with_front before height (if_found o (Err Wrong) (go_on n x))) none
+  separates_wrong before height ts all x rest read none (suc n, lt, e) = sym (after_item n before height ts rest all x read e)
+      ∙ ap (λ o. with_front before height (if_found o (Err Wrong) (go_on n x))) none
 
-  pub separates_end : (before : List A) (height : ℕ) (ts : List Token) (all : Read A) (x : A × ℕ) (rest next : List Token) → item ts ≡ Ok (x, rest) → at_mark more rest ≡ Some (false, next) → Separates before height ts all → all ≡ Ok ((before ++ x.0 ∷ [], max height x.1), next)
+  pub separates_end : (before : List A) (height : ℕ) (ts : List Token) (all : Read A) (x : A × ℕ) (rest next : List Token) → item ts ≡ Ok (x, rest) → at_mark more rest ≡ Some (false, next)
+      → Separates before height ts all → all ≡ Ok ((before ++ x.0 ∷ [], max height x.1), next)
   separates_end before height ts all x rest next read found (zero, lt, e) = absurd (omega (arith, lt))
-  separates_end before height ts all x rest next read found (suc n, lt, e) = sym (after_item n before height ts rest all x read e) ∙ ap (λ o. with_front before height (if_found o (Err Wrong) (go_on n x))) found
+  separates_end before height ts all x rest next read found (suc n, lt, e) = sym (after_item n before height ts rest all x read e)
+      ∙ ap (λ o. with_front before height (if_found o (Err Wrong) (go_on n x))) found
 
-  pub separates_step : (before : List A) (height : ℕ) (ts : List Token) (all : Read A) (x : A × ℕ) (rest next : List Token) → item ts ≡ Ok (x, rest) → at_mark more rest ≡ Some (true, next) → length next < length ts → Separates before height ts all → Separates (before ++ x.0 ∷ []) (max height x.1) next all
+  pub separates_step : (before : List A) (height : ℕ) (ts : List Token) (all : Read A) (x : A × ℕ) (rest next : List Token) → item ts ≡ Ok (x, rest) → at_mark more rest ≡ Some (true, next)
+      → length next < length ts → Separates before height ts all → Separates (before ++ x.0 ∷ []) (max height x.1) next all
   separates_step before height ts all x rest next read found less (zero, lt, e) = absurd (omega (arith, lt))
   separates_step before height ts all x rest next read found less (suc n, lt, e) = (
     n,

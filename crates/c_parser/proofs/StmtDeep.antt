@@ -1,10 +1,7 @@
 -- Statements and items are too deep only where that many tokens nest.
-use Rattle.std.proofs.Common.{◌≡◌, ℕ, zero, suc, ◌+◌, ◌<◌, ◌≤◌, max, Bool, true, false, not, ◌&&◌, List, [], ◌∷◌, map, length, Option, Some, None, Result, Ok, Err, refl, sym, ap, ◌∙◌, subst, arith, lit≤}
-use Rattle.std.specs.Prelude.{if◌then◌else◌, option_map, is_some, ◌||◌}
-use Rattle.std.specs.List.{list_all}
-use Rattle.std.proofs.lemmas.Bool.{leb-true}
+use Rattle.std.proofs.Common.{◌≡◌, ℕ, zero, suc, ◌+◌, ◌≤◌, Bool, true, List, [], ◌∷◌, length, Option, Some, None, Result, Ok, Err, refl, arith}
+use Rattle.std.proofs.Common.{lit≤}
 use Rattle.nm_base.specs.declared.operator.Ctype.{Ctype}
-use Rattle.nm_base.specs.declared.operator.Ctype.TheVariants.{Int, Unsigned}
 use Rattle.c_lexer.specs.declared.token.Token.{Token}
 use Rattle.c_lexer.specs.declared.token.Tok.{Tok}
 use Rattle.c_lexer.specs.declared.token.Tok.TheVariants as tok
@@ -22,32 +19,33 @@ use Rattle.c_tree.specs.declared.tree.Stmt.TheVariants as s
 use Rattle.c_tree.specs.declared.tree.Param.{Param}
 use Rattle.c_tree.specs.declared.tree.Head.{Head}
 use Rattle.c_tree.specs.declared.tree.Item.{Item}
-use Rattle.c_tree.specs.declared.tree.Item.TheVariants as i
-use Rattle.c_tree.specs.declared.tree.Stmt.TheOpen.{Stmt-F}
 use Rattle.c_parser.specs.declared.expr.Operand.{Operand}
-use Rattle.c_parser.specs.Tokens.{is_key, nesting, is_nesting_key}
-use Rattle.c_parser.specs.Walk.{Walk, ◌>>◌, stay, past, mark, key, named, each, commas, listed, on, is_name}
-use Rattle.c_parser.specs.Expr.{fits_at, part_of}
-use Rattle.c_parser.specs.Stmt as tree
-use Rattle.c_parser.specs.Stmt.{StmtPart, ArmPart, highest, is_empty, any_walk, any_height, any_fits, past_int, type_walk, declr_walk, declr_fits, declr_height, vars_walk, vars_fit, vars_height, value_walk, label_walk, label_fits, label_height, else_walk, else_height, else_fits, else_takes, returned_height, stmt_step, arm_step, stmt_part, arm_part}
-use Rattle.c_parser.specs.Reader.{Failure, Wrong, TooDeep, Reader, ◌>>=◌, if_found, at_mark, after, expect, expected}
+use Rattle.c_parser.specs.Tokens.{nesting, is_nesting_key}
+use Rattle.c_parser.specs.Walk.{◌>>◌, mark, key}
+use Rattle.c_parser.specs.Expr.{part_of}
+use Rattle.c_parser.specs.Stmt.{is_empty, any_walk, vars_walk, vars_height}
+use Rattle.c_parser.specs.Reader.{Failure, Wrong, Reader, ◌>>=◌, at_mark, after}
 use Rattle.c_parser.specs.ReadExpr.{line_at, read_expr}
-use Rattle.c_parser.specs.ReadStmt as read
-use Rattle.c_parser.specs.ReadStmt.{consed, repeated, separated, some_of, after_key, expect_key, name_by, name_at, found, expect_name, type_by, type_at, is_declr_end, size_of, start_of, declr_end, declarator, declarations, no_type, local, locals, condition, present, optional, label_by, label, begins_label, no_label, labels, list_end, leaf, returned, run, statements, otherwise, block, branch, whiled, done, counted, arm, arms, switched, stmt_by, stmt, read_stmt}
+use Rattle.c_parser.specs.ReadStmt.{repeated, separated, some_of, name_at, found, expect_name, type_at, is_declr_end, size_of, start_of, declr_end}
+use Rattle.c_parser.specs.ReadStmt.{declarator, declarations, no_type, local, locals, condition, present, optional, label_by, label, no_label, labels, list_end, leaf, returned, run}
+use Rattle.c_parser.specs.ReadStmt.{statements, otherwise, block, branch, whiled, done, counted, arm, arms, switched, stmt_by, stmt, read_stmt}
 use Rattle.c_parser.specs.ReadExpr.{is_separator}
 use Rattle.c_parser.specs.Unit.{params_walk, params_named}
 use Rattle.c_parser.specs.ReadUnit.{array_at, param_of, parameter, parameters, body_of, headed, function_of, vars_of, item_of, read_item, at_end, read_items}
-use Rattle.c_parser.proofs.Steps.{marked, mark_is, mark_takes, at_mark_some, then_some}
-use Rattle.c_parser.proofs.Deep.{Deeps, deeps_ok, deeps_wrong, deeps_all, deeps_bind, deeps_expected, deeps_expect, deeps_found, deeps_if, fewer, expr_deeps}
+use Rattle.c_parser.proofs.Steps.{mark_is, mark_takes, at_mark_some, then_some}
+use Rattle.c_parser.proofs.Deep.{Deeps, deeps_ok, deeps_wrong, deeps_bind, deeps_expected, deeps_expect, deeps_found, deeps_if, fewer, expr_deeps}
 use Rattle.c_parser.proofs.Nesting.{costs_token}
-use Rattle.c_parser.proofs.StmtMoves.{moves_any_mark, moves_mark, moves_key, moves_any_key, moves_name, moves_expr, moves_any, moves_type, moves_listed, moves_declr, moves_vars, moves_label, moves_labels, moves_stmt, moves_each, moves_arm}
-use Rattle.c_parser.proofs.StmtSound.{Keyed, keyed, key_takes, Shape, Is, Until, Commas, All, Any, Part, Condition, IsStmt, part_sound, condition_sound, optional_sound, declr_shape, vars_shape, label_shape, arm_shape, stmt_shape, declarator_sound, local_sound, locals_sound, label_sound, labels_sound, stmt_sound, arm_sound, name_is, type_is}
+use Rattle.c_parser.proofs.StmtMoves.{moves_mark, moves_key, moves_any_key, moves_name, moves_expr, moves_any, moves_type, moves_declr, moves_vars, moves_label}
+use Rattle.c_parser.proofs.StmtMoves.{moves_labels, moves_stmt, moves_each, moves_arm}
+use Rattle.c_parser.proofs.StmtSound.{key_takes, part_sound, condition_sound, optional_sound, declr_shape, vars_shape}
+use Rattle.c_parser.proofs.StmtSound.{label_shape, arm_shape, declarator_sound, local_sound, locals_sound, label_sound, labels_sound, stmt_sound, arm_sound, name_is, type_is}
 use Rattle.c_parser.proofs.UnitSound.{param_shape, item_shape, parameter_sound, parameters_sound, item_sound}
 use Rattle.c_parser.proofs.UnitFull.{moves_param, moves_params, moves_item}
 
 -- ---- lists
 
-module _ {A : Type 0} (P : Type 0) (k c : ℕ) (item : Reader (A × ℕ)) (deep : (us : List Token) → nesting us + c ≤ k → Deeps P (item us)) (falls : (us : List Token) (y : (A × ℕ) × List Token) → item us ≡ Ok y → nesting y.1 ≤ nesting us) where
+module _ {A : Type 0} (P : Type 0) (k c : ℕ) (item : Reader (A × ℕ)) (deep : (us : List Token) → nesting us + c ≤ k → Deeps P (item us)) (falls : (us : List Token) (y : (A × ℕ) × List Token)
+    → item us ≡ Ok y → nesting y.1 ≤ nesting us) where
   repeated_deeps : (stops : List Token → Option (List Token)) (n : ℕ) (us : List Token) → nesting us + c ≤ k → Deeps P (repeated stops item n us)
   unfolding repeated
   repeated_deeps stops zero us le = deeps_wrong P
@@ -71,7 +69,8 @@ module _ {A : Type 0} (P : Type 0) (k c : ℕ) (item : Reader (A × ℕ)) (deep 
 some_deeps : {A : Type 0} (P : Type 0) (r : Result ((List A × ℕ) × List Token) Failure) → Deeps P r → Deeps P (some_of r)
 some_deeps P r d = deeps_bind P r _ d (λ x e. deeps_if P (is_empty x.0.0) (Err Wrong) (Ok x) (λ _. deeps_wrong P) (λ _. deeps_ok P x))
 
-name_deeps : {A : Type 0} (P : Type 0) (ts : List Token) (f : List ℕ × List Token → Result A Failure) → ((x : List ℕ × List Token) → name_at ts ≡ Some x → Deeps P (f x)) → Deeps P (expect_name ts >>= f)
+name_deeps : {A : Type 0} (P : Type 0) (ts : List Token) (f : List ℕ × List Token → Result A Failure) → ((x : List ℕ × List Token) → name_at ts ≡ Some x → Deeps P (f x))
+    → Deeps P (expect_name ts >>= f)
 name_deeps P ts f h = from (name_at ts) h
   where
     from : (o : Option (List ℕ × List Token)) → ((x : List ℕ × List Token) → o ≡ Some x → Deeps P (f x)) → Deeps P (found o >>= f)
@@ -238,8 +237,10 @@ module _ (below most : ℕ) where
     unfolding counted
     counted_deeps line ts le = deeps_expect P m.LeftParen ts _ (λ us e. let f = fewer m.LeftParen ts us e in
         deeps_bind P (optional 14 m.Semicolon below us) _ (optional_deeps 14 m.Semicolon us (lit≤ tt) (omega (arith, le, f))) (λ x r. let g = optional_falls 14 m.Semicolon below us x (lit≤ tt) r in
-        deeps_bind P (optional 14 m.Semicolon below x.1) _ (optional_deeps 14 m.Semicolon x.1 (lit≤ tt) (omega (arith, le, f, g))) (λ y q. let h = optional_falls 14 m.Semicolon below x.1 y (lit≤ tt) q in
-        deeps_bind P (optional 14 m.RightParen below y.1) _ (optional_deeps 14 m.RightParen y.1 (lit≤ tt) (omega (arith, le, f, g, h))) (λ z s. let i = optional_falls 14 m.RightParen below y.1 z (lit≤ tt) s in
+        deeps_bind P (optional 14 m.Semicolon below x.1) _ (optional_deeps 14 m.Semicolon x.1 (lit≤ tt) (omega (arith, le, f, g)))
+        (λ y q. let h = optional_falls 14 m.Semicolon below x.1 y (lit≤ tt) q in
+        deeps_bind P (optional 14 m.RightParen below y.1) _ (optional_deeps 14 m.RightParen y.1 (lit≤ tt) (omega (arith, le, f, g, h)))
+        (λ z s. let i = optional_falls 14 m.RightParen below y.1 z (lit≤ tt) s in
         deeps_bind P (read_stmt below z.1) _ (lower z.1 (omega (arith, le, f, g, h, i))) (λ w t. deeps_ok P _)))))
 
     arm_deeps : (ts : List Token) → nesting ts + 1 ≤ most → Deeps P (arm below (read_stmt below) ts)
@@ -343,7 +344,8 @@ module _ (most : ℕ) where
       deeps_bind Q (block 63 (read_stmt 63) (line_at ts) us) _
       (record {
         of = λ d.
-            let b = (block_deeps 63 (nesting ts) (λ vs lt. record { of = λ g. let s = (stmt_deeps 63 vs).of g in omega (arith, s, lt) }) (line_at ts) us (omega (arith, f))).of d in omega (arith, b, le);
+            let b = (block_deeps 63 (nesting ts) (λ vs lt. record { of = λ g. let s = (stmt_deeps 63 vs).of g in omega (arith, s, lt) }) (line_at ts) us (omega (arith, f))).of d in omega
+            (arith, b, le);
       })
       (λ x r. deeps_ok Q _))) (λ _. deeps_wrong Q))
       (λ rest e. deeps_ok Q _)

@@ -1,10 +1,8 @@
 -- Each form of statement is read from its tokens.
-use Rattle.std.proofs.Common.{◌≡◌, ℕ, zero, suc, ◌+◌, ◌<◌, ◌≤◌, max, Bool, true, false, not, ◌&&◌, List, [], ◌∷◌, map, length, Option, Some, None, Result, Ok, Err, refl, sym, ap, ◌∙◌, subst, arith, lit≤}
+use Rattle.std.proofs.Common.{◌≡◌, ℕ, zero, suc, ◌+◌, ◌<◌, ◌≤◌, max, Bool, true, false, not, ◌&&◌, List, [], ◌∷◌, map, length, Option, Some, None, Result, Ok, refl, sym, ap, ◌∙◌, subst, arith}
+use Rattle.std.proofs.Common.{lit≤}
 use Rattle.std.specs.Prelude.{if◌then◌else◌, option_map, is_some, ◌||◌}
 use Rattle.std.specs.List.{list_all}
-use Rattle.std.proofs.lemmas.Bool.{leb-true}
-use Rattle.nm_base.specs.declared.operator.Ctype.{Ctype}
-use Rattle.nm_base.specs.declared.operator.Ctype.TheVariants.{Int, Unsigned}
 use Rattle.c_lexer.specs.declared.token.Token.{Token}
 use Rattle.c_lexer.specs.declared.token.Tok.{Tok}
 use Rattle.c_lexer.specs.declared.token.Tok.TheVariants as tok
@@ -13,35 +11,32 @@ use Rattle.c_lexer.specs.declared.token.Key.TheVariants as k
 use Rattle.c_lexer.specs.declared.token.Mark.{Mark}
 use Rattle.c_lexer.specs.declared.token.Mark.TheVariants as m
 use Rattle.c_tree.specs.declared.tree.Expr.{Expr}
-use Rattle.c_tree.specs.declared.tree.Declr.{Declr}
 use Rattle.c_tree.specs.declared.tree.Vars.{Vars}
 use Rattle.c_tree.specs.declared.tree.Label.{Label}
 use Rattle.c_tree.specs.declared.tree.Arm.{Arm}
 use Rattle.c_tree.specs.declared.tree.Stmt.{Stmt}
 use Rattle.c_tree.specs.declared.tree.Stmt.TheVariants as s
 use Rattle.c_tree.specs.declared.tree.Stmt.TheOpen.{Stmt-F}
-use Rattle.c_parser.specs.declared.expr.Operand.{Operand}
-use Rattle.c_parser.specs.Tokens.{is_key, is_mark, mark_level, follow}
-use Rattle.c_parser.specs.Walk.{Walk, ◌>>◌, stay, past, mark, key, named, each, commas, listed, on, is_name}
+use Rattle.c_parser.specs.Tokens.{follow}
+use Rattle.c_parser.specs.Walk.{Walk, ◌>>◌, stay, mark, key, each, on}
 use Rattle.c_parser.specs.Expr.{fits_at, part_of}
 use Rattle.c_parser.specs.Stmt as tree
-use Rattle.c_parser.specs.Stmt.{StmtPart, ArmPart, highest, is_empty, any_walk, any_height, any_fits, past_int, type_walk, declr_walk, declr_fits, declr_height, vars_walk, vars_fit, vars_height, value_walk, label_walk, label_fits, label_height, else_walk, else_height, else_fits, else_takes, returned_height, stmt_step, arm_step, stmt_part, arm_part}
-use Rattle.c_parser.specs.Reader.{Failure, Wrong, TooDeep, Reader, ◌>>=◌, if_found, at_mark, after, expect, expected}
-use Rattle.c_parser.specs.ReadExpr.{line_at, read_expr}
+use Rattle.c_parser.specs.Stmt.{StmtPart, ArmPart, highest, is_empty, any_walk, any_height, any_fits, past_int, type_walk, declr_walk, declr_fits, declr_height, vars_walk, vars_fit, vars_height}
+use Rattle.c_parser.specs.Stmt.{value_walk, label_walk, label_fits, label_height, else_walk, else_height, else_fits, else_takes, returned_height, stmt_step, arm_step, stmt_part, arm_part}
+use Rattle.c_parser.specs.Reader.{Failure, Reader, after, expected}
+use Rattle.c_parser.specs.ReadExpr.{read_expr}
 use Rattle.c_parser.specs.ReadStmt as read
-use Rattle.c_parser.specs.ReadStmt.{consed, repeated, separated, some_of, after_key, expect_key, name_by, name_at, found, expect_name, type_by, type_at, is_declr_end, size_of, start_of, declr_end, declarator, declarations, no_type, local, locals, condition, present, optional, label_by, label, begins_label, no_label, labels, list_end, leaf, returned, run, statements, otherwise, block, branch, whiled, done, counted, arm, arms, switched, stmt_by, stmt, read_stmt}
-use Rattle.c_parser.proofs.Steps.{Marked, marked, mark_is, mark_takes, and_true, then_some, on_then, on_is, named_some}
-use Rattle.c_parser.proofs.Spells.{then_walk, both}
-use Rattle.c_parser.proofs.Sound.{Sound}
-use Rattle.c_parser.proofs.Holds.{Holds}
-use Rattle.c_parser.proofs.Complete.{Got, expr_full}
-use Rattle.c_parser.specs.Expr.{Wants}
-use Rattle.c_parser.proofs.Follow.{begins, begins_mark, none_of, follow_mark, at_mark_is}
-use Rattle.c_parser.proofs.Refused.{read_never}
+use Rattle.c_parser.specs.ReadStmt.{consed, repeated, separated, some_of, after_key, expect_key, name_by, name_at, found, expect_name, type_by, type_at, is_declr_end, size_of, start_of, declr_end}
+use Rattle.c_parser.specs.ReadStmt.{declarator, declarations, no_type, local, locals, condition, present, optional, label_by, label, begins_label, no_label, labels, list_end, leaf, returned, run}
+use Rattle.c_parser.specs.ReadStmt.{statements, otherwise, block, branch, whiled, done, counted, arm, arms, switched, stmt_by, stmt, read_stmt}
+use Rattle.c_parser.proofs.Steps.{marked, and_true, then_some, on_then}
+use Rattle.c_parser.proofs.Spells.{then_walk}
+use Rattle.c_parser.proofs.Follow.{begins, begins_mark, none_of, follow_mark}
 use Rattle.c_parser.proofs.StmtLaws.{part-Block, part-Empty, part-Run, part-If, part-While, part-Do, part-For, part-Break, part-Continue, part-Return, part-Switch, part-Arm}
-use Rattle.c_parser.proofs.StmtMoves.{View, Block, Empty, Run, If, While, Do, For, Break, Continue, Return, Switch, view, moves_declr, moves_vars, moves_label, moves_stmt, moves_arm}
-use Rattle.c_parser.proofs.StmtSound.{Shape, declr_shape, vars_shape, label_shape, stmt_shape, arm_shape, Keyed, keyed, stmts_walk, stmts_fit, stmts_high, arms_walk, arms_fit, arms_high, stmts_empty}
-use Rattle.c_parser.proofs.StmtFull.{bind_to, expect_to, found_to, none_to, Reads, reads, expr_begins, Full, Listing, repeated_full, After, Anywhere, Round, condition_full, optional_full, first_of, no_begin, key_first, label_begins, not_nothing, some_to, locals_full, labels_full}
+use Rattle.c_parser.proofs.StmtMoves.{View, Block, Empty, Run, If, While, Do, For, Break, Continue, Return, Switch, view, moves_stmt, moves_arm}
+use Rattle.c_parser.proofs.StmtSound.{stmt_shape, arm_shape, keyed, stmts_walk, stmts_fit, stmts_high, arms_walk, arms_fit, arms_high, stmts_empty}
+use Rattle.c_parser.proofs.StmtFull.{bind_to, expect_to, found_to, none_to, reads, expr_begins, Full, Listing, repeated_full, condition_full, optional_full, first_of}
+use Rattle.c_parser.proofs.StmtFull.{key_first, label_begins, not_nothing, some_to, locals_full, labels_full}
 
 -- ---- tokens that begin a statement
 
@@ -105,7 +100,8 @@ empty_starts line t ts rest walks =
     let a = on_then line (mark m.Semicolon) (t ∷ ts) rest walks in
     ap starts (first_of m.Semicolon t ts rest a.1)
 
-run_starts : (part : Expr) (line : ℕ) (t : Token) (ts rest : List Token) → (on line >> (part_of part).walk >> mark m.Semicolon) (t ∷ ts) ≡ Some rest → fits_at 14 (part_of part) ≡ true → starts t.kind ≡ true
+run_starts : (part : Expr) (line : ℕ) (t : Token) (ts rest : List Token) → (on line >> (part_of part).walk >> mark m.Semicolon) (t ∷ ts) ≡ Some rest → fits_at 14 (part_of part) ≡ true
+    → starts t.kind ≡ true
 run_starts part line t ts rest walks fits =
     let a = on_then line ((part_of part).walk >> mark m.Semicolon) (t ∷ ts) rest walks in
     let b = then_some (part_of part).walk (mark m.Semicolon) (t ∷ ts) rest a.1 in
@@ -116,11 +112,13 @@ stmt_starts : (x : Stmt) → View x → (t : Token) (ts rest : List Token) → (
 unfolding starts_key starts_mark
 stmt_starts x (Block locals list line) t ts rest walks fits = start_mark m.LeftBrace line _ t ts rest refl (walk_of (s.Block locals list line) _ (t ∷ ts) rest (part-Block locals list line) walks)
 stmt_starts x (Empty line) t ts rest walks fits = empty_starts line t ts rest (walk_of (s.Empty line) _ (t ∷ ts) rest (part-Empty line) walks)
-stmt_starts x (Run part line) t ts rest walks fits = run_starts part line t ts rest (walk_of (s.Run part line) _ (t ∷ ts) rest (part-Run part line) walks) (ap (λ (p : StmtPart). p.fits) (sym (part-Run part line)) ∙ fits)
+stmt_starts x (Run part line) t ts rest walks fits = run_starts part line t ts rest (walk_of (s.Run part line) _ (t ∷ ts) rest (part-Run part line) walks)
+    (ap (λ (p : StmtPart). p.fits) (sym (part-Run part line)) ∙ fits)
 stmt_starts x (If test first second line) t ts rest walks fits = key_starts k.If line _ t ts rest refl (walk_of (s.If test first second line) _ (t ∷ ts) rest (part-If test first second line) walks)
 stmt_starts x (While test body line) t ts rest walks fits = key_starts k.While line _ t ts rest refl (walk_of (s.While test body line) _ (t ∷ ts) rest (part-While test body line) walks)
 stmt_starts x (Do body test line) t ts rest walks fits = key_starts k.Do line _ t ts rest refl (walk_of (s.Do body test line) _ (t ∷ ts) rest (part-Do body test line) walks)
-stmt_starts x (For start test third body line) t ts rest walks fits = key_starts k.For line _ t ts rest refl (walk_of (s.For start test third body line) _ (t ∷ ts) rest (part-For start test third body line) walks)
+stmt_starts x (For start test third body line) t ts rest walks fits = key_starts k.For line _ t ts rest refl
+    (walk_of (s.For start test third body line) _ (t ∷ ts) rest (part-For start test third body line) walks)
 stmt_starts x (Break line) t ts rest walks fits = key_starts k.Break line _ t ts rest refl (walk_of (s.Break line) _ (t ∷ ts) rest (part-Break line) walks)
 stmt_starts x (Continue line) t ts rest walks fits = key_starts k.Continue line _ t ts rest refl (walk_of (s.Continue line) _ (t ∷ ts) rest (part-Continue line) walks)
 stmt_starts x (Return value line) t ts rest walks fits = key_starts k.Return line _ t ts rest refl (walk_of (s.Return value line) _ (t ∷ ts) rest (part-Return value line) walks)
@@ -205,7 +203,8 @@ stmt_listing = record {
 -- ---- forms
 
 module _ (below : ℕ) (lower : Reader (Stmt × ℕ)) (full : Full stmt_shape below ElseStop lower) where
-  lower_is : (x : Stmt) (ts rest : List Token) → (stmt_part x).walk ts ≡ Some rest → (stmt_part x).fits ≡ true → (stmt_part x).height ≤ below → ElseStop x rest → lower ts ≡ Ok ((x, (stmt_part x).height), rest)
+  lower_is : (x : Stmt) (ts rest : List Token) → (stmt_part x).walk ts ≡ Some rest → (stmt_part x).fits ≡ true → (stmt_part x).height ≤ below → ElseStop x rest
+      → lower ts ≡ Ok ((x, (stmt_part x).height), rest)
   unfolding stmt_shape
   lower_is x ts rest walks fits low stop = full.of x ts rest walks fits low stop
 
@@ -213,7 +212,8 @@ module _ (below : ℕ) (lower : Reader (Stmt × ℕ)) (full : Full stmt_shape be
   abbrev pub Form : StmtPart → Stmt → Type 0
   Form p x = (ts rest : List Token) → p.walk ts ≡ Some rest → p.fits ≡ true → p.height ≤ suc below → (p.takes_else ≡ true → key k.Else rest ≡ None) → stmt below lower ts ≡ Ok ((x, p.height), rest)
 
-  key_start : (l : Key) (line : ℕ) (w : Walk) (ts rest : List Token) → (on line >> key l >> w) ts ≡ Some rest → (us : List Token) × (stmt below lower ts ≡ stmt_by below lower (tok.Keyword l) line us ts) × (w us ≡ Some rest)
+  key_start : (l : Key) (line : ℕ) (w : Walk) (ts rest : List Token) → (on line >> key l >> w) ts ≡ Some rest → (us : List Token)
+      × (stmt below lower ts ≡ stmt_by below lower (tok.Keyword l) line us ts) × (w us ≡ Some rest)
   unfolding stmt
   key_start l line w [] rest e = absurd (not_nothing line (key l >> w) rest e)
   key_start l line w (t ∷ ts) rest e =
@@ -226,7 +226,8 @@ module _ (below : ℕ) (lower : Reader (Stmt × ℕ)) (full : Full stmt_shape be
         b.2,
       )
 
-  mark_start : (n : Mark) (line : ℕ) (w : Walk) (ts rest : List Token) → (on line >> mark n >> w) ts ≡ Some rest → (us : List Token) × (stmt below lower ts ≡ stmt_by below lower (tok.Mark n) line us ts) × (w us ≡ Some rest)
+  mark_start : (n : Mark) (line : ℕ) (w : Walk) (ts rest : List Token) → (on line >> mark n >> w) ts ≡ Some rest → (us : List Token)
+      × (stmt below lower ts ≡ stmt_by below lower (tok.Mark n) line us ts) × (w us ≡ Some rest)
   unfolding stmt
   mark_start n line w [] rest e = absurd (not_nothing line (mark n >> w) rest e)
   mark_start n line w (t ∷ ts) rest e =
@@ -241,7 +242,8 @@ module _ (below : ℕ) (lower : Reader (Stmt × ℕ)) (full : Full stmt_shape be
       )
 
   -- no type comes next where statements end
-  type_after : (list : List Stmt) (ts last rest : List Token) → each (λ x. (stmt_part x).walk) list ts ≡ Some last → mark m.RightBrace last ≡ Some rest → list_all (λ x. (stmt_part x).fits) list ≡ true → type_at ts ≡ None
+  type_after : (list : List Stmt) (ts last rest : List Token) → each (λ x. (stmt_part x).walk) list ts ≡ Some last → mark m.RightBrace last ≡ Some rest → list_all (λ x. (stmt_part x).fits) list ≡ true
+      → type_at ts ≡ None
   type_after [] ts last rest walks close fits =
       let same : ts ≡ last = let h : Some ts ≡ Some last = walks in cc in
       let a = marked m.RightBrace ts rest (ap (mark m.RightBrace) same ∙ close) in
@@ -442,7 +444,8 @@ module _ (below : ℕ) (lower : Reader (Stmt × ℕ)) (full : Full stmt_shape be
   abbrev ArmStop : Arm → List Token → Type 0
   ArmStop x ts = list_end ts ≡ Some ts
 
-  no_label_after : (list : List Stmt) (ts rest : List Token) → not (is_empty list) ≡ true → each (λ x. (stmt_part x).walk) list ts ≡ Some rest → list_all (λ x. (stmt_part x).fits) list ≡ true → begins_label ts ≡ false
+  no_label_after : (list : List Stmt) (ts rest : List Token) → not (is_empty list) ≡ true → each (λ x. (stmt_part x).walk) list ts ≡ Some rest → list_all (λ x. (stmt_part x).fits) list ≡ true
+      → begins_label ts ≡ false
   unfolding starts_key
   no_label_after [] ts rest some walks fits = absurd cc
   no_label_after (x ∷ xs) ts rest some walks fits =
@@ -469,7 +472,8 @@ module _ (below : ℕ) (lower : Reader (Stmt × ℕ)) (full : Full stmt_shape be
       let first = labels_full below x.labels ts p.0 p.1 g.1 (omega (arith, low)) (not_true (is_empty x.labels) g.0) (no_label_after x.list p.0 rest some listed fit) in
       let second = repeated_full stmt_shape below ElseStop lower full list_end stmt_listing x.list (length p.0 + 1) p.0 rest rest listed stop fit (omega (arith, low, high)) (omega arith) in
       bind_to (labels below ts) _ ((x.labels, a), p.0) _ first
-      (bind_to (some_of (statements lower p.0)) _ ((x.list, highest (λ z. (stmt_part z).height) x.list), rest) _ (some_to (statements lower p.0) ((x.list, highest (λ z. (stmt_part z).height) x.list), rest) second (not_true (is_empty x.list) some))
+      (bind_to (some_of (statements lower p.0)) _ ((x.list, highest (λ z. (stmt_part z).height) x.list), rest) _
+      (some_to (statements lower p.0) ((x.list, highest (λ z. (stmt_part z).height) x.list), rest) second (not_true (is_empty x.list) some))
       (ap (λ (n : ℕ). Ok ((x, max a n), rest)) (sym high)))
 
   arm_full : Full arm_shape below ArmStop (arm below lower)
@@ -544,12 +548,14 @@ module _ (below : ℕ) (lower : Reader (Stmt × ℕ)) (full : Full stmt_shape be
       let b = then_some w (mark m.RightBrace) a.0 rest a.2 in
       let listed = ap (λ (o : Walk). o a.0) (sym (arms_walk list)) ∙ b.1 in
       let fit = sym (arms_fit list) ∙ f.1 in
-      let all = repeated_full arm_shape below ArmStop (arm below lower) arm_full (after m.RightBrace) arm_listing list (length a.0 + 1) a.0 b.0 rest listed b.2 fit (omega (arith, low, high)) (omega arith) in
+      let all = repeated_full arm_shape below ArmStop (arm below lower) arm_full (after m.RightBrace) arm_listing list (length a.0 + 1) a.0 b.0 rest listed b.2 fit (omega (arith, low, high))
+      (omega arith) in
       let n = highest (λ (z : ArmPart). z.height) (map arm_part list) in
       let S : Expr → ℕ → ℕ → Result ((Stmt × ℕ) × List Token) Failure = λ y i j. Ok ((s.Switch y list line, suc (max i j)), rest) in
       h.1 ∙ bind_to (condition below h.0) _ (c.1.operand, c.0) _ c.1.found (expect_to m.LeftBrace c.0 a.0 _ _ a.1
       (bind_to (read.arms below lower a.0) _ ((list, highest (λ z. (arm_part z).height) list), rest) _ all
-      (ap (λ (y : Expr). S y c.1.operand.height (highest (λ z. (arm_part z).height) list)) c.1.is ∙ ap (λ (i : ℕ). S test i (highest (λ z. (arm_part z).height) list)) c.1.high ∙ ap (λ (j : ℕ). S test q.height j) (sym high))))
+      (ap (λ (y : Expr). S y c.1.operand.height (highest (λ z. (arm_part z).height) list)) c.1.is ∙ ap (λ (i : ℕ). S test i (highest (λ z. (arm_part z).height) list)) c.1.high
+      ∙ ap (λ (j : ℕ). S test q.height j) (sym high))))
 
   -- ---- all forms
 

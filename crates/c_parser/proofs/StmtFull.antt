@@ -1,6 +1,7 @@
 -- The tokens of a statement, and where it stops, are read as that statement.
-use Rattle.std.proofs.Common.{◌≡◌, ℕ, zero, suc, ◌+◌, ◌<◌, ◌≤◌, max, Bool, true, false, not, ◌&&◌, List, [], ◌∷◌, map, length, Option, Some, None, Result, Ok, Err, refl, sym, ap, ◌∙◌, subst, arith, lit≤}
-use Rattle.std.specs.Prelude.{if◌then◌else◌, option_map, is_some, ◌||◌}
+use Rattle.std.proofs.Common.{◌≡◌, ℕ, zero, suc, ◌+◌, ◌<◌, ◌≤◌, max, Bool, true, false, not, ◌&&◌, List, [], ◌∷◌, length, Option, Some, None, Result, Ok, Err, refl, sym, ap, ◌∙◌, subst, arith}
+use Rattle.std.proofs.Common.{lit≤}
+use Rattle.std.specs.Prelude.{if◌then◌else◌, is_some, ◌||◌}
 use Rattle.std.specs.List.{list_all}
 use Rattle.std.proofs.lemmas.Bool.{leb-true}
 use Rattle.nm_base.specs.declared.operator.Ctype.{Ctype}
@@ -16,31 +17,24 @@ use Rattle.c_tree.specs.declared.tree.Expr.{Expr}
 use Rattle.c_tree.specs.declared.tree.Declr.{Declr}
 use Rattle.c_tree.specs.declared.tree.Vars.{Vars}
 use Rattle.c_tree.specs.declared.tree.Label.{Label}
-use Rattle.c_tree.specs.declared.tree.Arm.{Arm}
-use Rattle.c_tree.specs.declared.tree.Stmt.{Stmt}
-use Rattle.c_tree.specs.declared.tree.Stmt.TheVariants as s
-use Rattle.c_tree.specs.declared.tree.Stmt.TheOpen.{Stmt-F}
 use Rattle.c_parser.specs.declared.expr.Operand.{Operand}
-use Rattle.c_parser.specs.Tokens.{is_key, is_mark, mark_level, follow}
-use Rattle.c_parser.specs.Walk.{Walk, ◌>>◌, stay, past, mark, key, named, each, commas, listed, on, is_name}
+use Rattle.c_parser.specs.Tokens.{is_key, mark_level, follow}
+use Rattle.c_parser.specs.Walk.{Walk, ◌>>◌, stay, mark, key, named, each, commas, listed, on}
 use Rattle.c_parser.specs.Expr.{fits_at, part_of}
 use Rattle.c_parser.specs.Stmt as tree
-use Rattle.c_parser.specs.Stmt.{StmtPart, ArmPart, highest, is_empty, any_walk, any_height, any_fits, past_int, type_walk, declr_walk, declr_fits, declr_height, vars_walk, vars_fit, vars_height, value_walk, label_walk, label_fits, label_height, else_walk, else_height, else_fits, else_takes, returned_height, stmt_step, arm_step, stmt_part, arm_part}
-use Rattle.c_parser.specs.Reader.{Failure, Wrong, TooDeep, Reader, ◌>>=◌, if_found, at_mark, after, expect, expected}
-use Rattle.c_parser.specs.ReadExpr.{line_at, read_expr}
-use Rattle.c_parser.specs.ReadStmt as read
-use Rattle.c_parser.specs.ReadStmt.{consed, repeated, separated, some_of, after_key, expect_key, name_by, name_at, found, expect_name, type_by, type_at, is_declr_end, size_of, start_of, declr_end, declarator, declarations, no_type, local, locals, condition, present, optional, label_by, label, begins_label, no_label, labels, list_end, leaf, returned, run, statements, otherwise, block, branch, whiled, done, counted, arm, arms, switched, stmt_by, stmt, read_stmt}
-use Rattle.c_parser.proofs.Steps.{Marked, marked, mark_is, mark_takes, and_true, then_some, on_then, on_is, named_some}
-use Rattle.c_parser.proofs.Spells.{then_walk, both}
-use Rattle.c_parser.proofs.Sound.{Sound}
-use Rattle.c_parser.proofs.Holds.{Holds}
-use Rattle.c_parser.proofs.Complete.{Got, expr_full}
-use Rattle.c_parser.specs.Expr.{Wants}
+use Rattle.c_parser.specs.Stmt.{StmtPart, ArmPart, highest, is_empty, any_walk, any_height, any_fits, past_int, type_walk, declr_walk, declr_fits, declr_height, vars_walk, vars_fit, vars_height}
+use Rattle.c_parser.specs.Stmt.{value_walk, label_walk, label_fits, label_height, else_walk, else_height, else_fits, else_takes, returned_height, stmt_step, arm_step, stmt_part, arm_part}
+use Rattle.c_parser.specs.Reader.{Failure, Wrong, Reader, ◌>>=◌, if_found, at_mark, expect, expected}
+use Rattle.c_parser.specs.ReadExpr.{read_expr}
+use Rattle.c_parser.specs.ReadStmt.{repeated, separated, some_of, name_by, name_at, found, expect_name, type_by, type_at, is_declr_end, size_of, start_of, declr_end}
+use Rattle.c_parser.specs.ReadStmt.{declarator, declarations, no_type, local, locals, condition, present, optional, label_by, label, begins_label, no_label, labels}
+use Rattle.c_parser.proofs.Steps.{marked, and_true, then_some, on_then, named_some}
+use Rattle.c_parser.proofs.Spells.{then_walk}
+use Rattle.c_parser.proofs.Complete.{expr_full}
 use Rattle.c_parser.proofs.Follow.{begins, begins_mark, none_of, follow_mark, at_mark_is}
 use Rattle.c_parser.proofs.Refused.{read_never}
-use Rattle.c_parser.proofs.StmtLaws.{part-Block, part-Empty, part-Run, part-If, part-While, part-Do, part-For, part-Break, part-Continue, part-Return, part-Switch, part-Arm}
-use Rattle.c_parser.proofs.StmtMoves.{View, Block, Empty, Run, If, While, Do, For, Break, Continue, Return, Switch, view, moves_declr, moves_vars, moves_label, moves_stmt, moves_arm}
-use Rattle.c_parser.proofs.StmtSound.{Shape, declr_shape, vars_shape, label_shape, stmt_shape, arm_shape, Keyed, keyed, stmts_walk, stmts_fit, stmts_high, arms_walk, arms_fit, arms_high, stmts_empty}
+use Rattle.c_parser.proofs.StmtMoves.{moves_declr, moves_vars, moves_label}
+use Rattle.c_parser.proofs.StmtSound.{Shape, declr_shape, vars_shape, label_shape, keyed}
 
 -- ---- results
 
@@ -65,7 +59,8 @@ pub record Reads (limit level : ℕ) (x : Expr) (ts rest : List Token) : Type 0 
   pub is : operand.expr ≡ x
   pub high : operand.height ≡ (part_of x).height
 
-pub reads : (limit level : ℕ) (x : Expr) (ts rest : List Token) → level ≤ 14 → (part_of x).walk ts ≡ Some rest → fits_at level (part_of x) ≡ true → (part_of x).height ≤ limit → level < follow rest → Reads limit level x ts rest
+pub reads : (limit level : ℕ) (x : Expr) (ts rest : List Token) → level ≤ 14 → (part_of x).walk ts ≡ Some rest → fits_at level (part_of x) ≡ true → (part_of x).height ≤ limit → level < follow rest
+    → Reads limit level x ts rest
 reads limit level x ts rest le walk fits low stops =
     let q = part_of x in
     let f = and_true q.fits _ fits in
@@ -73,7 +68,8 @@ reads limit level x ts rest le walk fits low stops =
     record { operand = g.operand; found = g.reads; is = g.is; high = sym g.sound.spells.height_is ∙ ap (λ y. (part_of y).height) g.is }
 
 -- an expression begins with a token that begins one
-pub expr_begins : (level : ℕ) (x : Expr) (t : Token) (ts rest : List Token) → level ≤ 14 → (part_of x).walk (t ∷ ts) ≡ Some rest → fits_at level (part_of x) ≡ true → level < follow rest → begins t.kind ≡ true
+pub expr_begins : (level : ℕ) (x : Expr) (t : Token) (ts rest : List Token) → level ≤ 14 → (part_of x).walk (t ∷ ts) ≡ Some rest → fits_at level (part_of x) ≡ true → level < follow rest
+    → begins t.kind ≡ true
 expr_begins level x t ts rest le walk fits stops =
     let r = reads (part_of x).height level x (t ∷ ts) rest le walk fits (omega arith) stops in
     from (begins t.kind) refl r
@@ -98,13 +94,15 @@ module _ {A : Type 0} (s : Shape A) (limit : ℕ) (stop : A → List Token → T
   stays : (ts last : List Token) → stay ts ≡ Some last → ts ≡ last
   stays ts last e = cc
 
-  stop_list : (stops : List Token → Option (List Token)) → Listing s stop stops → (x : A) (xs : List A) (ts last rest : List Token) → each s.walk xs ts ≡ Some last → stops last ≡ Some rest → list_all s.fits xs ≡ true → stop x ts
+  stop_list : (stops : List Token → Option (List Token)) → Listing s stop stops → (x : A) (xs : List A) (ts last rest : List Token) → each s.walk xs ts ≡ Some last → stops last ≡ Some rest
+      → list_all s.fits xs ≡ true → stop x ts
   stop_list stops l x [] ts last rest walks ends fits = l.at_stop x ts rest (ap stops (stays ts last walks) ∙ ends)
   stop_list stops l x (y ∷ ys) ts last rest walks ends fits =
       let w = then_some (s.walk y) (each s.walk ys) ts last walks in
       l.at_next x y ts w.0 w.1 (and_true (s.fits y) (list_all s.fits ys) fits).0
 
-  pub repeated_full : (stops : List Token → Option (List Token)) → Listing s stop stops → (xs : List A) (n : ℕ) (ts last rest : List Token) → each s.walk xs ts ≡ Some last → stops last ≡ Some rest → list_all s.fits xs ≡ true → highest s.height xs ≤ limit → length ts < n
+  pub repeated_full : (stops : List Token → Option (List Token)) → Listing s stop stops → (xs : List A) (n : ℕ) (ts last rest : List Token) → each s.walk xs ts ≡ Some last → stops last ≡ Some rest
+      → list_all s.fits xs ≡ true → highest s.height xs ≤ limit → length ts < n
       → repeated stops item n ts ≡ Ok ((xs, highest s.height xs), rest)
   unfolding repeated
   repeated_full stops l xs zero ts last rest walks ends fits low lt = absurd (omega (arith, lt))
@@ -186,7 +184,8 @@ no_other n l ts us apart e = none_of (mark n ts) (λ rest h. let f = follow_mark
 
 -- ---- declarations
 
-pub declr_end_full : (limit : ℕ) (size start : Option Expr) (ts rest : List Token) → tree.declr_end size start ts ≡ Some rest → (any_fits 12 size && any_fits 13 start) ≡ true → max (any_height size) (any_height start) ≤ limit → 13 < follow rest
+pub declr_end_full : (limit : ℕ) (size start : Option Expr) (ts rest : List Token) → tree.declr_end size start ts ≡ Some rest → (any_fits 12 size && any_fits 13 start) ≡ true
+    → max (any_height size) (any_height start) ≤ limit → 13 < follow rest
     → declr_end limit ts ≡ Ok (((size, start), max (any_height size) (any_height start)), rest)
 unfolding declr_end size_of start_of
 declr_end_full limit None None ts rest walks fits low stops =
@@ -235,7 +234,8 @@ declr_takes : (d : Declr) (ts us : List Token) → declr_walk d ts ≡ Some us �
 declr_takes d ts us e = let f = (moves_declr d).takes ts us e in omega (arith, f)
 
 -- declarations, after their type
-pub declarations_full : (limit : ℕ) (v : Vars) (ts rest : List Token) → (listed declr_walk v.list >> mark m.Semicolon) ts ≡ Some rest → vars_fit v ≡ true → vars_height v ≤ limit → declarations limit v.of ts ≡ Ok ((v, vars_height v), rest)
+pub declarations_full : (limit : ℕ) (v : Vars) (ts rest : List Token) → (listed declr_walk v.list >> mark m.Semicolon) ts ≡ Some rest → vars_fit v ≡ true → vars_height v ≤ limit
+    → declarations limit v.of ts ≡ Ok ((v, vars_height v), rest)
 unfolding declarations declr_shape
 declarations_full limit v ts rest walks fits low =
     let w = then_some (listed declr_walk v.list) (mark m.Semicolon) ts rest walks in
@@ -267,10 +267,12 @@ vars_listing = record {
   at_next = λ v u ts rest walks fits. tt;
 }
 
-pub locals_full : (limit : ℕ) (xs : List Vars) (ts rest : List Token) → each vars_walk xs ts ≡ Some rest → list_all vars_fit xs ≡ true → highest vars_height xs ≤ limit → type_at rest ≡ None → locals limit ts ≡ Ok ((xs, highest vars_height xs), rest)
+pub locals_full : (limit : ℕ) (xs : List Vars) (ts rest : List Token) → each vars_walk xs ts ≡ Some rest → list_all vars_fit xs ≡ true → highest vars_height xs ≤ limit → type_at rest ≡ None
+    → locals limit ts ≡ Ok ((xs, highest vars_height xs), rest)
 unfolding locals vars_shape
 locals_full limit xs ts rest walks fits low none =
-    repeated_full vars_shape limit Anywhere (local limit) (local_full limit) no_type vars_listing xs (length ts + 1) ts rest rest walks (ap (λ (o : Option (Ctype × List Token)). if is_some o then None else Some rest) none) fits low (omega arith)
+    repeated_full vars_shape limit Anywhere (local limit) (local_full limit) no_type vars_listing xs (length ts + 1) ts rest rest walks
+    (ap (λ (o : Option (Ctype × List Token)). if is_some o then None else Some rest) none) fits low (omega arith)
 
 -- ---- parts of statements
 
@@ -281,7 +283,8 @@ pub record Round (x : Expr) (r : Result (Operand × List Token) Failure) (rest :
   pub is : operand.expr ≡ x
   pub high : operand.height ≡ (part_of x).height
 
-pub condition_full : (limit : ℕ) (x : Expr) (v : Walk) (ts rest : List Token) → (mark m.LeftParen >> (part_of x).walk >> mark m.RightParen >> v) ts ≡ Some rest → fits_at 14 (part_of x) ≡ true → (part_of x).height ≤ limit
+pub condition_full : (limit : ℕ) (x : Expr) (v : Walk) (ts rest : List Token) → (mark m.LeftParen >> (part_of x).walk >> mark m.RightParen >> v) ts ≡ Some rest → fits_at 14 (part_of x) ≡ true
+    → (part_of x).height ≤ limit
     → (us : List Token) × Round x (condition limit ts) us × (v us ≡ Some rest)
 unfolding condition
 condition_full limit x v ts rest walks fits low =
@@ -308,14 +311,16 @@ first_of n t ts rest e =
     ap (λ (u : Token). u.kind) same ∙ k.kind
 
 -- an expression doesn't begin with a mark that begins none
-pub no_begin : (n : Mark) (level : ℕ) (x : Expr) (ts rest : List Token) → level ≤ 14 → begins_mark n ≡ false → (part_of x).walk ts ≡ Some rest → fits_at level (part_of x) ≡ true → level < follow rest → mark n ts ≡ None
+pub no_begin : (n : Mark) (level : ℕ) (x : Expr) (ts rest : List Token) → level ≤ 14 → begins_mark n ≡ false → (part_of x).walk ts ≡ Some rest → fits_at level (part_of x) ≡ true → level < follow rest
+    → mark n ts ≡ None
 no_begin n level x [] rest le not walks fits stops = refl
 no_begin n level x (t ∷ ts) rest le not walks fits stops = none_of (mark n (t ∷ ts)) (λ us e.
     let b = expr_begins level x t ts rest le walks fits stops in
     let c : begins t.kind ≡ false = ap begins (first_of n t ts us e) ∙ not in
     let bad : true ≡ false = sym b ∙ c in cc)
 
-pub optional_full : (limit level : ℕ) (end : Mark) (x : Option Expr) (v : Walk) (ts rest : List Token) → level ≤ 14 → mark_level end ≡ 15 → begins_mark end ≡ false → (any_walk x >> mark end >> v) ts ≡ Some rest → any_fits level x ≡ true → any_height x ≤ limit
+pub optional_full : (limit level : ℕ) (end : Mark) (x : Option Expr) (v : Walk) (ts rest : List Token) → level ≤ 14 → mark_level end ≡ 15 → begins_mark end ≡ false
+    → (any_walk x >> mark end >> v) ts ≡ Some rest → any_fits level x ≡ true → any_height x ≤ limit
     → (us : List Token) × (optional level end limit ts ≡ Ok ((x, any_height x), us)) × (v us ≡ Some rest)
 unfolding optional present
 optional_full limit level end None v ts rest le ends not walks fits low =
@@ -358,7 +363,8 @@ case_full limit x line ts rest walks fits low =
     let L : Expr → ℕ → Result ((Label × ℕ) × List Token) Failure = λ y n. Ok ((record { value = Some y; line = line }, n), rest) in
     bind_to (read_expr limit 12 ts) _ (r.operand, a.0) _ r.found (expect_to m.Colon a.0 rest _ _ a.2 (ap (λ (y : Expr). L y r.operand.height) r.is ∙ ap (λ (n : ℕ). L x n) r.high))
 
-label_value_full : (limit : ℕ) (value : Option Expr) (line : ℕ) (t : Token) (ts rest : List Token) → t.line ≡ line → (value_walk value >> mark m.Colon) (t ∷ ts) ≡ Some rest → any_fits 12 value ≡ true → any_height value ≤ limit
+label_value_full : (limit : ℕ) (value : Option Expr) (line : ℕ) (t : Token) (ts rest : List Token) → t.line ≡ line → (value_walk value >> mark m.Colon) (t ∷ ts) ≡ Some rest → any_fits 12 value ≡ true
+    → any_height value ≤ limit
     → label limit (t ∷ ts) ≡ Ok ((record { value = value; line = line }, any_height value), rest)
 unfolding label
 label_value_full limit None line t ts rest same walks fits low =
@@ -413,7 +419,10 @@ label_listing = record {
 pub some_to : {A : Type 0} (r : Result ((List A × ℕ) × List Token) Failure) (y : (List A × ℕ) × List Token) → r ≡ Ok y → is_empty y.0.0 ≡ false → some_of r ≡ Ok y
 some_to r y e h = bind_to r _ y (Ok y) e (ap (λ (b : Bool). if b then Err Wrong else Ok y) h)
 
-pub labels_full : (limit : ℕ) (xs : List Label) (ts rest : List Token) → each label_walk xs ts ≡ Some rest → list_all label_fits xs ≡ true → highest label_height xs ≤ limit → is_empty xs ≡ false → begins_label rest ≡ false → labels limit ts ≡ Ok ((xs, highest label_height xs), rest)
+pub labels_full : (limit : ℕ) (xs : List Label) (ts rest : List Token) → each label_walk xs ts ≡ Some rest → list_all label_fits xs ≡ true → highest label_height xs ≤ limit → is_empty xs ≡ false
+    → begins_label rest ≡ false → labels limit ts ≡ Ok ((xs, highest label_height xs), rest)
 unfolding labels label_shape
 labels_full limit xs ts rest walks fits low some none =
-    some_to _ ((xs, highest label_height xs), rest) (repeated_full label_shape limit Anywhere (label limit) (label_full limit) no_label label_listing xs (length ts + 1) ts rest rest walks (ap (λ (b : Bool). if b then None else Some rest) none) fits low (omega arith)) some
+    some_to _ ((xs, highest label_height xs), rest)
+    (repeated_full label_shape limit Anywhere (label limit) (label_full limit) no_label label_listing xs (length ts + 1) ts rest rest walks
+    (ap (λ (b : Bool). if b then None else Some rest) none) fits low (omega arith)) some

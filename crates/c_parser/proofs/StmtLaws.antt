@@ -1,5 +1,5 @@
 -- What the definitions of statements say of each form.
-use Rattle.std.proofs.Common.{◌≡◌, ℕ, Bool, List, [], ◌∷◌, map, Option, Some, None, refl, sym, ap, ◌∙◌, subst}
+use Rattle.std.proofs.Common.{◌≡◌, ℕ, List, map, Option, Some, None, sym, ap, ◌∙◌}
 use Rattle.std.specs.Prelude.{option_map}
 use denote.Hole.Carrier.{out, roll}
 use Rattle.c_tree.specs.declared.tree.Expr.{Expr}

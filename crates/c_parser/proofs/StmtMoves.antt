@@ -1,12 +1,9 @@
 -- What statements take: as many tokens as they have parts, and as many nesting tokens as they are high, but for two.
-use Rattle.std.proofs.Common.{◌≡◌, ℕ, zero, suc, ◌+◌, ◌-◌, ◌<◌, ◌≤◌, max, Bool, true, false, not, ◌&&◌, List, [], ◌∷◌, map, length, Option, Some, None, refl, sym, ap, ◌∙◌, subst, arith}
+use Rattle.std.proofs.Common.{◌≡◌, ℕ, zero, suc, ◌+◌, ◌-◌, ◌<◌, ◌≤◌, max, Bool, true, false, List, [], ◌∷◌, map, length, Option, Some, None, refl, sym, ap, ◌∙◌, subst, arith}
 use Rattle.std.specs.Prelude.{if◌then◌else◌, option_map}
-use Rattle.std.specs.List.{list_all}
 use Rattle.nm_base.specs.declared.operator.Ctype.{Ctype}
 use Rattle.nm_base.specs.declared.operator.Ctype.TheVariants.{Int, Unsigned}
 use Rattle.c_lexer.specs.declared.token.Token.{Token}
-use Rattle.c_lexer.specs.declared.token.Tok.{Tok}
-use Rattle.c_lexer.specs.declared.token.Tok.TheVariants as tok
 use Rattle.c_lexer.specs.declared.token.Key.{Key}
 use Rattle.c_lexer.specs.declared.token.Key.TheVariants as k
 use Rattle.c_lexer.specs.declared.token.Mark.{Mark}
@@ -23,11 +20,12 @@ use Rattle.c_parser.specs.Tokens.{is_key, is_nesting_mark, is_nesting_key, is_ne
 use Rattle.c_parser.specs.Walk.{Walk, ◌>>◌, stay, nowhere, mark, key, named, each, commas, listed, on}
 use Rattle.c_parser.specs.Expr.{part_of}
 use Rattle.c_parser.specs.Stmt as tree
-use Rattle.c_parser.specs.Stmt.{StmtPart, ArmPart, highest, is_empty, any_walk, any_height, past_int, type_walk, declr_walk, declr_height, vars_walk, vars_height, value_walk, label_walk, label_height, else_walk, else_height, returned_height, stmt_step, arm_step, stmt_part, arm_part}
-use Rattle.c_parser.proofs.Steps.{marked, then_some, on_then, named_some, past_some}
+use Rattle.c_parser.specs.Stmt.{StmtPart, ArmPart, highest, is_empty, any_walk, any_height, past_int, type_walk, declr_walk, declr_height, vars_walk, vars_height, value_walk, label_walk, label_height}
+use Rattle.c_parser.specs.Stmt.{else_walk, else_height, returned_height, stmt_step, arm_step, stmt_part, arm_part}
+use Rattle.c_parser.proofs.Steps.{then_some, on_then, named_some}
 use Rattle.c_parser.proofs.Nesting.{costs_token, costs_any, costs_mark, costs_expr}
 use Rattle.c_parser.proofs.Shorter.{takes_mark, takes_name, takes_expr}
-use Rattle.c_parser.proofs.StmtSound.{keyed, stmts_walk, stmts_high, arms_walk, arms_high}
+use Rattle.c_parser.proofs.StmtSound.{keyed, stmts_walk, stmts_high, arms_high}
 use Rattle.c_parser.proofs.StmtLaws.{part-Block, part-Empty, part-Run, part-If, part-While, part-Do, part-For, part-Break, part-Continue, part-Return, part-Switch, part-Arm}
 
 -- ---- statements by their form
@@ -205,19 +203,23 @@ module _ {A : Type 0} (w : A → Walk) (h : A → ℕ) (spare : ℕ) where
 
   moves_commas : (xs : List A) → ((x : A) → Moves (h x - spare) 1 (w x)) → Moves (highest h xs - spare) (length xs) (commas w xs)
   moves_commas [] f = moves_less (0 - spare) 0 0 0 stay (omega arith) (omega arith) moves_stay
-  moves_commas (x ∷ xs) f = moves_then (max (h x) (highest h xs) - spare) (length (x ∷ xs)) 0 1 (max (h x) (highest h xs) - spare) (length xs) (mark m.Comma) (w x >> commas w xs) (omega arith) (omega arith) (moves_any_mark m.Comma)
+  moves_commas (x ∷ xs) f = moves_then (max (h x) (highest h xs) - spare) (length (x ∷ xs)) 0 1 (max (h x) (highest h xs) - spare) (length xs) (mark m.Comma) (w x >> commas w xs) (omega arith)
+      (omega arith) (moves_any_mark m.Comma)
       (moves_then (max (h x) (highest h xs) - spare) (length xs) (h x - spare) 1 (highest h xs - spare) (length xs) (w x) (commas w xs) (omega arith) (omega arith) (f x) (moves_commas xs f))
 
   pub moves_listed : (xs : List A) → ((x : A) → Moves (h x - spare) 1 (w x)) → Moves (highest h xs - spare) (length xs) (listed w xs)
   moves_listed [] f = moves_nowhere (0 - spare) 0
-  moves_listed (x ∷ xs) f = moves_then (max (h x) (highest h xs) - spare) (length (x ∷ xs)) (h x - spare) 1 (highest h xs - spare) (length xs) (w x) (commas w xs) (omega arith) (omega arith) (f x) (moves_commas xs f)
+  moves_listed (x ∷ xs) f = moves_then (max (h x) (highest h xs) - spare) (length (x ∷ xs)) (h x - spare) 1 (highest h xs - spare) (length xs) (w x) (commas w xs) (omega arith) (omega arith) (f x)
+      (moves_commas xs f)
 
 -- ---- declarations
 
 moves_end : (size start : Option Expr) → Moves (max (any_height size) (any_height start) - 1) 0 (tree.declr_end size start)
 moves_end None None = moves_less (0 - 1) 0 0 0 stay (omega arith) (omega arith) moves_stay
-moves_end None (Some x) = moves_then (max 0 (part_of x).height - 1) 0 0 1 ((part_of x).height - 1) 1 (mark m.Assign) (part_of x).walk (omega arith) (omega arith) (moves_any_mark m.Assign) (moves_expr x)
-moves_end (Some x) None = moves_then (max (part_of x).height 0 - 1) 0 0 1 ((part_of x).height - 1) 1 (mark m.LeftBracket) ((part_of x).walk >> mark m.RightBracket) (omega arith) (omega arith) (moves_any_mark m.LeftBracket)
+moves_end None (Some x) = moves_then (max 0 (part_of x).height - 1) 0 0 1 ((part_of x).height - 1) 1 (mark m.Assign) (part_of x).walk (omega arith) (omega arith) (moves_any_mark m.Assign)
+    (moves_expr x)
+moves_end (Some x) None = moves_then (max (part_of x).height 0 - 1) 0 0 1 ((part_of x).height - 1) 1 (mark m.LeftBracket) ((part_of x).walk >> mark m.RightBracket) (omega arith) (omega arith)
+    (moves_any_mark m.LeftBracket)
     (moves_then ((part_of x).height - 1) 1 ((part_of x).height - 1) 1 0 1 (part_of x).walk (mark m.RightBracket) (omega arith) (omega arith) (moves_expr x) (moves_any_mark m.RightBracket))
 moves_end (Some x) (Some y) = moves_nowhere (max (part_of x).height (part_of y).height - 1) 0
 
@@ -227,7 +229,8 @@ moves_declr d = moves_on (declr_height d - 1) 1 d.line (named d.name >> tree.dec
 
 pub moves_vars : (v : Vars) → Moves (vars_height v - 1) 1 (vars_walk v)
 moves_vars v = moves_then (vars_height v - 1) 1 0 1 (vars_height v - 1) 0 (type_walk v.of) (listed declr_walk v.list >> mark m.Semicolon) (omega arith) (omega arith) (moves_type v.of)
-    (moves_then (vars_height v - 1) 0 (vars_height v - 1) (length v.list) 0 1 (listed declr_walk v.list) (mark m.Semicolon) (omega arith) (omega arith) (moves_listed declr_walk declr_height 1 v.list moves_declr) (moves_any_mark m.Semicolon))
+    (moves_then (vars_height v - 1) 0 (vars_height v - 1) (length v.list) 0 1 (listed declr_walk v.list) (mark m.Semicolon) (omega arith) (omega arith)
+    (moves_listed declr_walk declr_height 1 v.list moves_declr) (moves_any_mark m.Semicolon))
 
 -- ---- labels
 
@@ -282,7 +285,8 @@ returned_less : (x : Option Expr) → returned_height x - 2 ≤ any_height x - 1
 returned_less None = omega arith
 returned_less (Some x) = omega arith
 
-moves_stmts : (xs : List Stmt) → ((x : Stmt) → height_of x ≤ highest height_of xs → Move x) → Moves (highest (λ (x : StmtPart). x.height) (map stmt_part xs) - 2) (length xs) (each (λ (x : StmtPart). x.walk) (map stmt_part xs))
+moves_stmts : (xs : List Stmt) → ((x : Stmt) → height_of x ≤ highest height_of xs → Move x)
+    → Moves (highest (λ (x : StmtPart). x.height) (map stmt_part xs) - 2) (length xs) (each (λ (x : StmtPart). x.walk) (map stmt_part xs))
 moves_stmts xs f =
     subst (λ (n : ℕ). Moves (n - 2) (length xs) (each (λ (x : StmtPart). x.walk) (map stmt_part xs))) (sym (stmts_high xs))
     (subst (λ (w : Walk). Moves (highest height_of xs - 2) (length xs) w) (sym (stmts_walk xs)) (moves_each walk_of height_of 2 xs f))
@@ -296,10 +300,12 @@ moves_arm x f =
     let high : (arm_part x).height ≡ max a b = ap (λ (p : ArmPart). p.height) (part-Arm x) in
     let same : b ≡ highest height_of x.list = stmts_high x.list in
     subst (λ (p : ArmPart). Moves (p.height - 2) (length x.labels + length x.list) p.walk) (sym (part-Arm x))
-    (moves_then (max a b - 2) (length x.labels + length x.list) (a - 2) (length x.labels) (b - 2) (length x.list) (each label_walk x.labels) (each (λ (z : StmtPart). z.walk) (map stmt_part x.list)) (omega arith) (omega arith)
+    (moves_then (max a b - 2) (length x.labels + length x.list) (a - 2) (length x.labels) (b - 2) (length x.list) (each label_walk x.labels) (each (λ (z : StmtPart). z.walk) (map stmt_part x.list))
+    (omega arith) (omega arith)
     (moves_each label_walk label_height 2 x.labels (λ l le. label_spare l)) (moves_stmts x.list (λ y le. f y (omega (arith, le, high, same)))))
 
-moves_arms : (xs : List Arm) → ((x : Arm) → (arm_part x).height ≤ highest (λ z. (arm_part z).height) xs → Moves ((arm_part x).height - 2) 0 (arm_part x).walk) → Moves (highest (λ (x : ArmPart). x.height) (map arm_part xs) - 2) 0 (each (λ (x : ArmPart). x.walk) (map arm_part xs))
+moves_arms : (xs : List Arm) → ((x : Arm) → (arm_part x).height ≤ highest (λ z. (arm_part z).height) xs → Moves ((arm_part x).height - 2) 0 (arm_part x).walk)
+    → Moves (highest (λ (x : ArmPart). x.height) (map arm_part xs) - 2) 0 (each (λ (x : ArmPart). x.walk) (map arm_part xs))
 moves_arms [] f = moves_less (0 - 2) 0 0 0 stay (omega arith) (omega arith) moves_stay
 moves_arms (x ∷ xs) f =
     let a = (arm_part x).height in
@@ -324,7 +330,8 @@ module _ (h : ℕ) (lower : (y : Stmt) → height_of y < h → Move y) where
       by_form (s.Block locals list line) _ form (moves_on (suc (max a b) - 2) 1 line (mark m.LeftBrace >> v >> w >> mark m.RightBrace)
       (moves_then (suc (max a b) - 2) 1 1 1 (max (a - 1) (b - 2)) 0 (mark m.LeftBrace) (v >> w >> mark m.RightBrace) (omega arith) (omega arith) (moves_mark m.LeftBrace refl)
       (moves_then (max (a - 1) (b - 2)) 0 (a - 1) (length locals) (b - 2) 0 v (w >> mark m.RightBrace) (omega arith) (omega arith) (moves_each vars_walk vars_height 1 locals (λ z le. moves_vars z))
-      (moves_then (b - 2) 0 (b - 2) (length list) 0 1 w (mark m.RightBrace) (omega arith) (omega arith) (moves_stmts list (λ z le. lower z (omega (arith, le, l, lt, same)))) (moves_any_mark m.RightBrace)))))
+      (moves_then (b - 2) 0 (b - 2) (length list) 0 1 w (mark m.RightBrace) (omega arith) (omega arith) (moves_stmts list (λ z le. lower z (omega (arith, le, l, lt, same))))
+      (moves_any_mark m.RightBrace)))))
   moves_view x (Empty line) lt = by_form (s.Empty line) _ (part-Empty line) (moves_on 0 1 line (mark m.Semicolon) (moves_any_mark m.Semicolon))
   moves_view x (Run part line) lt =
       let a = (part_of part).height in
@@ -336,7 +343,8 @@ module _ (h : ℕ) (lower : (y : Stmt) → height_of y < h → Move y) where
       let l : height_of (s.If test first second line) ≡ suc (max a (max b c)) = ap (λ q. q.height) form in
       let w = walk_of first in let v = else_walk (option_map stmt_part second) in
       by_form (s.If test first second line) _ form (moves_on (suc (max a (max b c)) - 2) 1 line (key k.If >> mark m.LeftParen >> (part_of test).walk >> mark m.RightParen >> w >> v)
-      (moves_then (suc (max a (max b c)) - 2) 1 1 1 (a + max (b - 2) (c - 2)) 0 (key k.If) (mark m.LeftParen >> (part_of test).walk >> mark m.RightParen >> w >> v) (omega arith) (omega arith) (moves_key k.If refl)
+      (moves_then (suc (max a (max b c)) - 2) 1 1 1 (a + max (b - 2) (c - 2)) 0 (key k.If) (mark m.LeftParen >> (part_of test).walk >> mark m.RightParen >> w >> v) (omega arith) (omega arith)
+      (moves_key k.If refl)
       (moves_paren (a + max (b - 2) (c - 2)) 0 (max (b - 2) (c - 2)) test (w >> v) (omega arith) (omega arith)
       (moves_then (max (b - 2) (c - 2)) 0 (b - 2) 1 (c - 2) 0 w v (omega arith) (omega arith) (lower first (omega (arith, l, lt))) (moves_else second (omega (arith, l, lt)))))))
   moves_view x (While test body line) lt =
@@ -344,7 +352,8 @@ module _ (h : ℕ) (lower : (y : Stmt) → height_of y < h → Move y) where
       let a = (part_of test).height in let b = height_of body in
       let l : height_of (s.While test body line) ≡ suc (max a b) = ap (λ q. q.height) form in
       by_form (s.While test body line) _ form (moves_on (suc (max a b) - 2) 1 line (key k.While >> mark m.LeftParen >> (part_of test).walk >> mark m.RightParen >> walk_of body)
-      (moves_then (suc (max a b) - 2) 1 1 1 (a + (b - 2)) 0 (key k.While) (mark m.LeftParen >> (part_of test).walk >> mark m.RightParen >> walk_of body) (omega arith) (omega arith) (moves_key k.While refl)
+      (moves_then (suc (max a b) - 2) 1 1 1 (a + (b - 2)) 0 (key k.While) (mark m.LeftParen >> (part_of test).walk >> mark m.RightParen >> walk_of body) (omega arith) (omega arith)
+      (moves_key k.While refl)
       (moves_paren (a + (b - 2)) 0 (b - 2) test (walk_of body) (omega arith) (omega arith) (part_less body (lower body (omega (arith, l, lt)))))))
   moves_view x (Do body test line) lt =
       let form = part-Do body test line in
@@ -352,7 +361,8 @@ module _ (h : ℕ) (lower : (y : Stmt) → height_of y < h → Move y) where
       let l : height_of (s.Do body test line) ≡ suc (max b a) = ap (λ q. q.height) form in
       let w = walk_of body in let q = (part_of test).walk in
       by_form (s.Do body test line) _ form (moves_on (suc (max b a) - 2) 1 line (key k.Do >> w >> key k.While >> mark m.LeftParen >> q >> mark m.RightParen >> mark m.Semicolon)
-      (moves_then (suc (max b a) - 2) 1 1 1 ((b - 2) + a) 0 (key k.Do) (w >> key k.While >> mark m.LeftParen >> q >> mark m.RightParen >> mark m.Semicolon) (omega arith) (omega arith) (moves_key k.Do refl)
+      (moves_then (suc (max b a) - 2) 1 1 1 ((b - 2) + a) 0 (key k.Do) (w >> key k.While >> mark m.LeftParen >> q >> mark m.RightParen >> mark m.Semicolon) (omega arith) (omega arith)
+      (moves_key k.Do refl)
       (moves_then ((b - 2) + a) 0 (b - 2) 1 a 0 w (key k.While >> mark m.LeftParen >> q >> mark m.RightParen >> mark m.Semicolon) (omega arith) (omega arith) (lower body (omega (arith, l, lt)))
       (moves_then a 0 0 1 a 0 (key k.While) (mark m.LeftParen >> q >> mark m.RightParen >> mark m.Semicolon) (omega arith) (omega arith) (moves_any_key k.While)
       (moves_paren a 0 0 test (mark m.Semicolon) (omega arith) (omega arith) (moves_less 0 0 0 1 (mark m.Semicolon) (omega arith) (omega arith) (moves_any_mark m.Semicolon)))))))
@@ -361,14 +371,19 @@ module _ (h : ℕ) (lower : (y : Stmt) → height_of y < h → Move y) where
       let a = any_height start in let b = any_height test in let c = any_height third in let d = height_of body in
       let l : height_of (s.For start test third body line) ≡ suc (max a (max b (max c d))) = ap (λ q. q.height) form in
       let w = walk_of body in
-      let z : Moves (c - 1 + (d - 2)) 0 (any_walk third >> mark m.RightParen >> w) = moves_upto (c - 1 + (d - 2)) (d - 2) third m.RightParen w (omega arith) (part_less body (lower body (omega (arith, l, lt)))) in
+      let z : Moves (c - 1 + (d - 2)) 0 (any_walk third >> mark m.RightParen >> w) = moves_upto (c - 1 + (d - 2)) (d - 2) third m.RightParen w (omega arith)
+      (part_less body (lower body (omega (arith, l, lt)))) in
       let y : Moves (b - 1 + (c - 1 + (d - 2))) 0 (any_walk test >> mark m.Semicolon >> any_walk third >> mark m.RightParen >> w) =
       moves_upto (b - 1 + (c - 1 + (d - 2))) (c - 1 + (d - 2)) test m.Semicolon (any_walk third >> mark m.RightParen >> w) (omega arith) z in
       let u : Moves (a - 1 + (b - 1 + (c - 1 + (d - 2)))) 0 (any_walk start >> mark m.Semicolon >> any_walk test >> mark m.Semicolon >> any_walk third >> mark m.RightParen >> w) =
       moves_upto (a - 1 + (b - 1 + (c - 1 + (d - 2)))) (b - 1 + (c - 1 + (d - 2))) start m.Semicolon (any_walk test >> mark m.Semicolon >> any_walk third >> mark m.RightParen >> w) (omega arith) y in
-      by_form (s.For start test third body line) _ form (moves_on (suc (max a (max b (max c d))) - 2) 1 line (key k.For >> mark m.LeftParen >> any_walk start >> mark m.Semicolon >> any_walk test >> mark m.Semicolon >> any_walk third >> mark m.RightParen >> w)
-      (moves_then (suc (max a (max b (max c d))) - 2) 1 1 1 (1 + (a - 1 + (b - 1 + (c - 1 + (d - 2))))) 0 (key k.For) (mark m.LeftParen >> any_walk start >> mark m.Semicolon >> any_walk test >> mark m.Semicolon >> any_walk third >> mark m.RightParen >> w) (omega arith) (omega arith) (moves_key k.For refl)
-      (moves_then (1 + (a - 1 + (b - 1 + (c - 1 + (d - 2))))) 0 1 1 (a - 1 + (b - 1 + (c - 1 + (d - 2)))) 0 (mark m.LeftParen) (any_walk start >> mark m.Semicolon >> any_walk test >> mark m.Semicolon >> any_walk third >> mark m.RightParen >> w) (omega arith) (omega arith) (moves_mark m.LeftParen refl) u)))
+      by_form (s.For start test third body line) _ form
+      (moves_on (suc (max a (max b (max c d))) - 2) 1 line
+      (key k.For >> mark m.LeftParen >> any_walk start >> mark m.Semicolon >> any_walk test >> mark m.Semicolon >> any_walk third >> mark m.RightParen >> w)
+      (moves_then (suc (max a (max b (max c d))) - 2) 1 1 1 (1 + (a - 1 + (b - 1 + (c - 1 + (d - 2))))) 0 (key k.For)
+      (mark m.LeftParen >> any_walk start >> mark m.Semicolon >> any_walk test >> mark m.Semicolon >> any_walk third >> mark m.RightParen >> w) (omega arith) (omega arith) (moves_key k.For refl)
+      (moves_then (1 + (a - 1 + (b - 1 + (c - 1 + (d - 2))))) 0 1 1 (a - 1 + (b - 1 + (c - 1 + (d - 2)))) 0 (mark m.LeftParen)
+      (any_walk start >> mark m.Semicolon >> any_walk test >> mark m.Semicolon >> any_walk third >> mark m.RightParen >> w) (omega arith) (omega arith) (moves_mark m.LeftParen refl) u)))
   moves_view x (Break line) lt = by_form (s.Break line) _ (part-Break line) (moves_leaf k.Break line)
   moves_view x (Continue line) lt = by_form (s.Continue line) _ (part-Continue line) (moves_leaf k.Continue line)
   moves_view x (Return value line) lt =
@@ -383,9 +398,12 @@ module _ (h : ℕ) (lower : (y : Stmt) → height_of y < h → Move y) where
       let same = arms_high arms in
       let w = each (λ (z : ArmPart). z.walk) (map arm_part arms) in
       let arm : (z : Arm) → (arm_part z).height ≤ highest (λ y. (arm_part y).height) arms → Moves ((arm_part z).height - 2) 0 (arm_part z).walk = λ z le.
-      moves_less ((arm_part z).height - 2) 0 ((arm_part z).height - 2) (length z.labels + length z.list) (arm_part z).walk (omega arith) (omega arith) (moves_arm z (λ y le'. lower y (omega (arith, le, le', l, lt, same)))) in
-      by_form (s.Switch test arms line) _ form (moves_on (suc (max a b) - 2) 1 line (key k.Switch >> mark m.LeftParen >> (part_of test).walk >> mark m.RightParen >> mark m.LeftBrace >> w >> mark m.RightBrace)
-      (moves_then (suc (max a b) - 2) 1 1 1 (a + (b - 2)) 0 (key k.Switch) (mark m.LeftParen >> (part_of test).walk >> mark m.RightParen >> mark m.LeftBrace >> w >> mark m.RightBrace) (omega arith) (omega arith) (moves_key k.Switch refl)
+      moves_less ((arm_part z).height - 2) 0 ((arm_part z).height - 2) (length z.labels + length z.list) (arm_part z).walk (omega arith) (omega arith)
+      (moves_arm z (λ y le'. lower y (omega (arith, le, le', l, lt, same)))) in
+      by_form (s.Switch test arms line) _ form
+      (moves_on (suc (max a b) - 2) 1 line (key k.Switch >> mark m.LeftParen >> (part_of test).walk >> mark m.RightParen >> mark m.LeftBrace >> w >> mark m.RightBrace)
+      (moves_then (suc (max a b) - 2) 1 1 1 (a + (b - 2)) 0 (key k.Switch) (mark m.LeftParen >> (part_of test).walk >> mark m.RightParen >> mark m.LeftBrace >> w >> mark m.RightBrace) (omega arith)
+      (omega arith) (moves_key k.Switch refl)
       (moves_paren (a + (b - 2)) 0 (b - 2) test (mark m.LeftBrace >> w >> mark m.RightBrace) (omega arith) (omega arith)
       (moves_then (b - 2) 0 0 1 (b - 2) 0 (mark m.LeftBrace) (w >> mark m.RightBrace) (omega arith) (omega arith) (moves_any_mark m.LeftBrace)
       (moves_then (b - 2) 0 (b - 2) 0 0 1 w (mark m.RightBrace) (omega arith) (omega arith) (moves_arms arms arm) (moves_any_mark m.RightBrace))))))

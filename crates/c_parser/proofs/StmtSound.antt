@@ -1,10 +1,10 @@
 -- What is read of declarations and statements derives the tokens.
-use Rattle.std.proofs.Common.{◌≡◌, ℕ, zero, suc, ◌+◌, ◌<◌, ◌≤◌, max, Bool, true, false, not, ◌&&◌, List, [], ◌∷◌, map, length, Option, Some, None, Result, Ok, Err, refl, sym, ap, ◌∙◌, subst, arith, lit≤}
+use Rattle.std.proofs.Common.{◌≡◌, ℕ, zero, suc, ◌+◌, ◌≤◌, max, Bool, true, false, not, ◌&&◌, List, [], ◌∷◌, map, length, Option, Some, None, Result, Ok, Err, refl, sym, ap, ◌∙◌, subst, arith}
+use Rattle.std.proofs.Common.{lit≤}
 use Rattle.std.specs.Prelude.{if◌then◌else◌, option_map, is_some, ◌||◌}
 use Rattle.std.specs.List.{list_all}
 use Rattle.nm_base.specs.declared.operator.Ctype.{Ctype}
 use Rattle.nm_base.specs.declared.operator.Ctype.TheVariants.{Int, Unsigned}
-use Rattle.nm_base.specs.declared.operator.Ctype.TheVariants as ctype
 use Rattle.c_lexer.specs.declared.token.Token.{Token}
 use Rattle.c_lexer.specs.declared.token.Tok.{Tok}
 use Rattle.c_lexer.specs.declared.token.Tok.TheVariants as tok
@@ -27,15 +27,17 @@ use Rattle.c_parser.specs.Tokens.{is_key}
 use Rattle.c_parser.specs.Walk.{Walk, ◌>>◌, stay, past, mark, key, named, each, commas, listed, on}
 use Rattle.c_parser.specs.Expr.{fits_at, part_of}
 use Rattle.c_parser.specs.Stmt as tree
-use Rattle.c_parser.specs.Stmt.{StmtPart, ArmPart, highest, is_empty, any_walk, any_height, any_fits, past_int, type_walk, declr_walk, declr_fits, declr_height, vars_walk, vars_fit, vars_height, value_walk, label_walk, label_fits, label_height, else_walk, else_height, else_fits, returned_height, stmt_step, arm_step, stmt_part, arm_part}
-use Rattle.c_parser.specs.Reader.{Failure, Wrong, TooDeep, Reader, ◌>>=◌, if_found, at_mark, after, expect, expected}
+use Rattle.c_parser.specs.Stmt.{StmtPart, ArmPart, highest, is_empty, any_walk, any_height, any_fits, past_int, type_walk, declr_walk, declr_fits, declr_height, vars_walk, vars_fit, vars_height}
+use Rattle.c_parser.specs.Stmt.{value_walk, label_walk, label_fits, label_height, else_walk, else_height, else_fits, returned_height, stmt_step, arm_step, stmt_part, arm_part}
+use Rattle.c_parser.specs.Reader.{Failure, Wrong, TooDeep, Reader, ◌>>=◌, if_found, at_mark, after, expected}
 use Rattle.c_parser.specs.ReadExpr.{line_at, read_expr}
-use Rattle.c_parser.specs.ReadStmt as read
-use Rattle.c_parser.specs.ReadStmt.{consed, repeated, separated, some_of, after_key, expect_key, name_by, name_at, found, expect_name, type_by, type_at, is_declr_end, size_of, start_of, declr_end, declarator, declarations, no_type, local, locals, condition, present, optional, label_by, label, begins_label, no_label, labels, list_end, leaf, returned, run, statements, otherwise, block, branch, whiled, done, counted, arm, arms, switched, stmt_by, stmt, read_stmt}
-use Rattle.c_parser.proofs.Steps.{Marked, marked, mark_is, mark_takes, at_mark_some, and_true, bind_ok, expected_ok, past_some, takes_name, on_own, then_some}
+use Rattle.c_parser.specs.ReadStmt.{consed, repeated, separated, some_of, name_by, name_at, found, expect_name, type_by, type_at, is_declr_end, size_of, start_of, declr_end}
+use Rattle.c_parser.specs.ReadStmt.{declarator, declarations, no_type, local, locals, condition, present, optional, label_by, label, begins_label, no_label, labels, list_end, leaf, returned, run}
+use Rattle.c_parser.specs.ReadStmt.{statements, otherwise, block, branch, whiled, done, counted, arm, arms, switched, stmt_by, stmt, read_stmt}
+use Rattle.c_parser.proofs.Steps.{mark_is, mark_takes, at_mark_some, past_some, takes_name, on_own, then_some}
 use Rattle.c_parser.proofs.Spells.{then_walk, both, fits_is}
 use Rattle.c_parser.proofs.Holds.{Holds, holds_ok, holds_err, holds_bind, holds_expect, holds_found, holds_if}
-use Rattle.c_parser.proofs.Sound.{Sound, IsSound, expr_sound}
+use Rattle.c_parser.proofs.Sound.{expr_sound}
 use Rattle.c_parser.proofs.StmtLaws.{part-Block, part-Empty, part-Run, part-If, part-While, part-Do, part-For, part-Break, part-Continue, part-Return, part-Switch, part-Arm}
 
 -- ---- keywords
@@ -221,7 +223,8 @@ optional_sound level end limit ts le =
 
 -- ---- declarations
 
-pub holds_name : {A : Type 0} (P : A → Type 0) (ts : List Token) (f : List ℕ × List Token → Result A Failure) → ((x : List ℕ × List Token) → name_at ts ≡ Some x → Holds P (f x)) → Holds P (expect_name ts >>= f)
+pub holds_name : {A : Type 0} (P : A → Type 0) (ts : List Token) (f : List ℕ × List Token → Result A Failure) → ((x : List ℕ × List Token) → name_at ts ≡ Some x → Holds P (f x))
+    → Holds P (expect_name ts >>= f)
 holds_name P ts f h = from (name_at ts) h
   where
     from : (o : Option (List ℕ × List Token)) → ((x : List ℕ × List Token) → o ≡ Some x → Holds P (f x)) → Holds P (found o >>= f)
@@ -364,12 +367,14 @@ pub record All {A : Type 0} (s : Shape A) (limit : ℕ) (ts : List Token) (y : (
   pub low : y.0.1 ≤ limit
 
 -- items that stop without taking a token
-pub all_of : {A : Type 0} (s : Shape A) (limit : ℕ) (stops : List Token → Option (List Token)) (ts : List Token) (r : Result ((List A × ℕ) × List Token) Failure) → ((us vs : List Token) → stops us ≡ Some vs → us ≡ vs) → Holds (Until s limit stops ts) r → Holds (All s limit ts) r
+pub all_of : {A : Type 0} (s : Shape A) (limit : ℕ) (stops : List Token → Option (List Token)) (ts : List Token) (r : Result ((List A × ℕ) × List Token) Failure)
+    → ((us vs : List Token) → stops us ≡ Some vs → us ≡ vs) → Holds (Until s limit stops ts) r → Holds (All s limit ts) r
 all_of s limit stops ts r same h = record { of = λ y read. let u = h.of y read in record { walks = u.walks ∙ ap Some (same u.last y.1 u.stop); fit = u.fit; high = u.high; low = u.low } }
 
 pub locals_sound : (limit : ℕ) (ts : List Token) → Holds (All vars_shape limit ts) (locals limit ts)
 unfolding locals
-locals_sound limit ts = all_of vars_shape limit no_type ts _ (λ us vs e. stopped (is_some (type_at us)) us vs e) (repeated_sound vars_shape limit (local limit) (local_sound limit) no_type (length ts + 1) ts)
+locals_sound limit ts = all_of vars_shape limit no_type ts _ (λ us vs e. stopped (is_some (type_at us)) us vs e)
+    (repeated_sound vars_shape limit (local limit) (local_sound limit) no_type (length ts + 1) ts)
 
 -- ---- labels
 
@@ -422,7 +427,8 @@ label_sound limit (t ∷ ts) = label_by_sound limit t.kind t ts refl
 
 pub labels_sound : (limit : ℕ) (ts : List Token) → Holds (λ y. All label_shape limit ts y × (is_empty y.0.0 ≡ false)) (labels limit ts)
 unfolding labels
-labels_sound limit ts = holds_some (All label_shape limit ts) _ (all_of label_shape limit no_label ts _ (λ us vs e. stopped (begins_label us) us vs e) (repeated_sound label_shape limit (label limit) (label_sound limit) no_label (length ts + 1) ts))
+labels_sound limit ts = holds_some (All label_shape limit ts) _
+    (all_of label_shape limit no_label ts _ (λ us vs e. stopped (begins_label us) us vs e) (repeated_sound label_shape limit (label limit) (label_sound limit) no_label (length ts + 1) ts))
 
 -- ---- statements
 
@@ -493,7 +499,8 @@ returned_is : (value : Option Expr) → returned_height value ≡ suc (any_heigh
 returned_is None = refl
 returned_is (Some x) = refl
 
-leaf_sound : (below : ℕ) (l : Key) (x : Stmt) (t : Token) (ts : List Token) → t.kind ≡ tok.Keyword l → stmt_part x ≡ tree.leaf_stmt (on t.line >> key l >> mark m.Semicolon) → Holds (IsStmt (suc below) (t ∷ ts)) (leaf x ts)
+leaf_sound : (below : ℕ) (l : Key) (x : Stmt) (t : Token) (ts : List Token) → t.kind ≡ tok.Keyword l → stmt_part x ≡ tree.leaf_stmt (on t.line >> key l >> mark m.Semicolon)
+    → Holds (IsStmt (suc below) (t ∷ ts)) (leaf x ts)
 unfolding leaf
 leaf_sound below l x t ts e form =
     let P = IsStmt (suc below) (t ∷ ts) in
@@ -575,7 +582,8 @@ module _ (below : ℕ) (lower : Reader (Stmt × ℕ)) (sound : (ts : List Token)
       holds_bind P (All stmt_shape below x.1) (statements lower x.1) _ (statements_sound x.1) (λ y u.
       holds_expect P m.RightBrace y.1 _ (λ rest close.
       let v = each vars_walk x.0.0 in let w = each (λ (z : StmtPart). z.walk) (map stmt_part y.0.0) in
-      holds_ok P ((s.Block x.0.0 y.0.0 t.line, suc (max x.0.1 y.0.1)), rest) (by_form (suc below) (t ∷ ts) rest (s.Block x.0.0 y.0.0 t.line) _ (suc (max x.0.1 y.0.1)) (part-Block x.0.0 y.0.0 t.line) (record {
+      holds_ok P ((s.Block x.0.0 y.0.0 t.line, suc (max x.0.1 y.0.1)), rest)
+      (by_form (suc below) (t ∷ ts) rest (s.Block x.0.0 y.0.0 t.line) _ (suc (max x.0.1 y.0.1)) (part-Block x.0.0 y.0.0 t.line) (record {
         walks = first_mark m.LeftBrace t ts (v >> w >> mark m.RightBrace) e
             ∙ then_walk v (w >> mark m.RightBrace) ts x.1 a.walks
             ∙ then_walk w (mark m.RightBrace) x.1 y.1 (ap (λ (o : Walk). o x.1) (stmts_walk y.0.0) ∙ u.walks) ∙ close;
@@ -594,7 +602,8 @@ module _ (below : ℕ) (lower : Reader (Stmt × ℕ)) (sound : (ts : List Token)
   unfolding otherwise
   otherwise_sound ts = from (key k.Else ts) refl
     where
-      from : (o : Option (List Token)) → key k.Else ts ≡ o → Holds (λ (y : (Option Stmt × ℕ) × List Token). Elsed ts y.0.0 y.0.1 y.1) (if_found o (Ok ((None, 0), ts)) (λ rest. lower rest >>= λ x. Ok ((Some x.0.0, x.0.1), x.1)))
+      from : (o : Option (List Token)) → key k.Else ts ≡ o
+          → Holds (λ (y : (Option Stmt × ℕ) × List Token). Elsed ts y.0.0 y.0.1 y.1) (if_found o (Ok ((None, 0), ts)) (λ rest. lower rest >>= λ x. Ok ((Some x.0.0, x.0.1), x.1)))
       from None e = holds_ok (λ (y : (Option Stmt × ℕ) × List Token). Elsed ts y.0.0 y.0.1 y.1) ((None, 0), ts) (refl, e, refl)
       from (Some us) e = holds_bind (λ (y : (Option Stmt × ℕ) × List Token). Elsed ts y.0.0 y.0.1 y.1) (IsStmt below us) (lower us) _ (sound us) (λ x i.
           holds_ok (λ (y : (Option Stmt × ℕ) × List Token). Elsed ts y.0.0 y.0.1 y.1) ((Some x.0.0, x.0.1), x.1) (us, e, i))
@@ -708,7 +717,8 @@ module _ (below : ℕ) (lower : Reader (Stmt × ℕ)) (sound : (ts : List Token)
     high : p.height ≡ height
     low : height ≤ below
 
-  arm_by : (ts : List Token) (x : Arm) (height : ℕ) (rest : List Token) → IsArm ts (arm_step (record { labels = x.labels; list = map stmt_part x.list })) height rest → Is arm_shape below ts ((x, height), rest)
+  arm_by : (ts : List Token) (x : Arm) (height : ℕ) (rest : List Token) → IsArm ts (arm_step (record { labels = x.labels; list = map stmt_part x.list })) height rest
+      → Is arm_shape below ts ((x, height), rest)
   unfolding arm_shape
   arm_by ts x height rest h =
       let i = subst (λ (p : ArmPart). IsArm ts p height rest) (sym (part-Arm x)) h in

@@ -1,12 +1,11 @@
 -- Turns of the loops over declarations, labels and statements.
-use Rattle.std.proofs.Common.{◌≡◌, ◌<◌, length, arith, ℕ, Bool, true, false, List, [], ◌∷◌, Option, Some, None, Result, Ok, Err, refl, ap, sym, ◌∙◌}
+use Rattle.std.proofs.Common.{◌≡◌, ◌<◌, length, arith, ℕ, Bool, true, false, List, [], ◌∷◌, Option, Some, None, Err, refl, ap, ◌∙◌}
 use Rattle.std.specs.Prelude.{if◌then◌else◌, is_some}
 use Rattle.nm_base.specs.declared.operator.Ctype.{Ctype}
 use Rattle.c_lexer.specs.declared.token.Token.{Token}
-use Rattle.c_tree.specs.declared.tree.Vars.{Vars}
 use Rattle.c_parser.specs.declared.fault.Refusal.{Refusal}
 use Rattle.c_parser.specs.declared.fault.Refusal.TheVariants.{Syntax, Deep, Memory}
-use Rattle.c_parser.specs.Reader.{Failure, Wrong, Fails, if_found}
+use Rattle.c_parser.specs.Reader.{Wrong, Fails, if_found}
 use Rattle.c_parser.specs.ReadUnit.{at_end}
 use Rattle.c_parser.specs.ReadStmt.{type_at, no_type, local, declarations, begins_label, no_label, list_end}
 

@@ -1,10 +1,10 @@
 -- The tokens of a unit are read as it.
-use Rattle.std.proofs.Common.{◌≡◌, ℕ, zero, suc, ◌+◌, ◌-◌, ◌<◌, ◌≤◌, max, map, ◌⊎◌, inl, inr, Bool, true, false, not, ◌&&◌, List, [], ◌∷◌, length, Option, Some, None, Result, Ok, Err, refl, sym, ap, ◌∙◌, subst, arith, lit≤}
-use Rattle.std.specs.Prelude.{if◌then◌else◌, is_some, nat_le}
+use Rattle.std.proofs.Common.{◌≡◌, ℕ, ◌+◌, ◌-◌, ◌<◌, ◌≤◌, max, map, ◌⊎◌, inl, inr, Bool, true, false, ◌&&◌, List, [], ◌∷◌, length, Option, Some, None, Result, Ok, Err, refl, sym, ap}
+use Rattle.std.proofs.Common.{◌∙◌, subst, arith, lit≤}
+use Rattle.std.specs.Prelude.{if◌then◌else◌}
 use Rattle.std.specs.List.{list_all}
-use Rattle.std.proofs.lemmas.Bool.{le-leb, leb-true}
+use Rattle.std.proofs.lemmas.Bool.{leb-true}
 use Rattle.nm_base.specs.declared.operator.Ctype.{Ctype}
-use Rattle.nm_base.specs.declared.operator.Ctype.TheVariants.{Int, Unsigned}
 use Rattle.c_lexer.specs.declared.token.Token.{Token}
 use Rattle.c_lexer.specs.declared.token.Tok.{Tok}
 use Rattle.c_lexer.specs.declared.token.Tok.TheVariants as tok
@@ -20,22 +20,25 @@ use Rattle.c_tree.specs.declared.tree.Vars.{Vars}
 use Rattle.c_tree.specs.declared.tree.Tree.{Tree}
 use Rattle.c_tree.specs.declared.tree.Stmt.{Stmt}
 use Rattle.c_parser.specs.Tokens.{is_key}
-use Rattle.c_parser.specs.Walk.{Walk, ◌>>◌, stay, mark, key, named, each, listed, on}
+use Rattle.c_parser.specs.Walk.{◌>>◌, stay, mark, key, named, each, listed, on}
 use Rattle.c_parser.specs.Stmt.{highest, any_walk, any_height, any_fits, type_walk, declr_walk, vars_walk, vars_fit, vars_height, stmt_part}
-use Rattle.c_parser.specs.Unit.{array_walk, param_begin, param_walk, param_fits, param_height, past_void, params_walk, params_named, result_walk, head_walk, head_fits, head_height, item_walk, item_fits, item_height, Derives, unit_height, UnitOf}
-use Rattle.c_parser.specs.Reader.{Failure, Wrong, Reader, ◌>>=◌, if_found, at_mark, after, expect}
+use Rattle.c_parser.specs.Unit.{array_walk, param_begin, param_walk, param_fits, param_height, past_void, params_walk, params_named, result_walk, head_walk, head_fits, head_height, item_walk}
+use Rattle.c_parser.specs.Unit.{item_fits, item_height, Derives, unit_height, UnitOf}
+use Rattle.c_parser.specs.Reader.{Failure, Wrong, ◌>>=◌, expect}
 use Rattle.c_parser.specs.ReadExpr.{line_at, is_separator}
-use Rattle.c_parser.specs.ReadStmt.{repeated, separated, after_key, expect_name, name_at, type_at, declarations, optional, block, read_stmt}
-use Rattle.c_parser.specs.ReadUnit.{array_at, param_of, parameter, parameters, body_of, headed, function_of, vars_of, item_of, read_item, at_end, read_items, tree_of}
-use Rattle.c_parser.proofs.Steps.{marked, mark_is, on_own, then_some, on_then, and_true}
+use Rattle.c_parser.specs.ReadStmt.{expect_name, name_at, type_at, declarations, optional, block, read_stmt}
+use Rattle.c_parser.specs.ReadUnit.{array_at, param_of, parameter, parameters, body_of, headed, function_of, vars_of, item_of, read_item, at_end, read_items}
+use Rattle.c_parser.proofs.Steps.{marked, then_some, on_then, and_true}
 use Rattle.c_parser.specs.Tokens.{mark_level, follow}
 use Rattle.c_tree.specs.declared.tree.Declr.{Declr}
-use Rattle.c_parser.proofs.Spells.{then_walk, both}
+use Rattle.c_parser.proofs.Spells.{then_walk}
 use Rattle.c_parser.proofs.Follow.{none_of, follow_mark}
-use Rattle.c_parser.proofs.StmtSound.{keyed, Shape, vars_shape}
-use Rattle.c_parser.proofs.StmtMoves.{Moves, moves_then, moves_less, moves_on, moves_stay, moves_nowhere, moves_any_mark, moves_mark, moves_any_key, moves_name, moves_any, moves_type, moves_listed, moves_vars, moves_stmt, moves_each, View, Block, Empty, Run, If, While, Do, For, Break, Continue, Return, Switch, view}
-use Rattle.c_parser.proofs.StmtFull.{bind_to, expect_to, found_to, none_to, Full, Listing, repeated_full, separated_full, After, Anywhere, name_found, type_found, no_mark_at, no_other, optional_full, declarations_full, first_of, key_first, not_nothing}
-use Rattle.c_parser.proofs.StmtForms.{ElseStop, stmt_full, block_full}
+use Rattle.c_parser.proofs.StmtSound.{keyed}
+use Rattle.c_parser.proofs.StmtMoves.{Moves, moves_then, moves_less, moves_on, moves_stay, moves_nowhere, moves_any_mark, moves_mark, moves_any_key, moves_name, moves_any, moves_type, moves_listed}
+use Rattle.c_parser.proofs.StmtMoves.{moves_vars, moves_stmt, moves_each, View, Block, Empty, Run, If, While, Do, For, Break, Continue, Return, Switch, view}
+use Rattle.c_parser.proofs.StmtFull.{bind_to, expect_to, found_to, none_to, Full, Listing, repeated_full, separated_full, Anywhere, name_found, type_found, no_mark_at, no_other, optional_full}
+use Rattle.c_parser.proofs.StmtFull.{declarations_full, first_of}
+use Rattle.c_parser.proofs.StmtForms.{stmt_full, block_full}
 use Rattle.c_parser.proofs.StmtLaws.{part-Block, part-Empty, part-Run, part-If, part-While, part-Do, part-For, part-Break, part-Continue, part-Return, part-Switch}
 use Rattle.c_parser.proofs.Nesting.{costs_token}
 use Rattle.c_parser.specs.Tokens.{nesting}
@@ -43,7 +46,6 @@ use Rattle.c_parser.specs.Expr.{part_of}
 use Rattle.c_parser.specs.Walk.{commas}
 use Rattle.c_parser.specs.Stmt.{StmtPart, declr_end}
 use Rattle.c_parser.specs.ReadStmt.{found, name_by, type_by}
-use Rattle.c_lexer.specs.declared.token.Key.{Key}
 use Rattle.c_tree.specs.declared.tree.Stmt.TheVariants as s
 use Rattle.c_parser.proofs.UnitSound.{param_shape, item_shape}
 
@@ -52,7 +54,8 @@ use Rattle.c_parser.proofs.UnitSound.{param_shape, item_shape}
 moves_array : (array : Bool) (size : Option Expr) → Moves (any_height size - 1) 0 (array_walk array size)
 moves_array false None = moves_less (0 - 1) 0 0 0 stay (omega arith) (omega arith) moves_stay
 moves_array false (Some x) = moves_nowhere (any_height (Some x) - 1) 0
-moves_array true size = moves_then (any_height size - 1) 0 0 1 (any_height size - 1) 0 (mark m.LeftBracket) (any_walk size >> mark m.RightBracket) (omega arith) (omega arith) (moves_any_mark m.LeftBracket)
+moves_array true size = moves_then (any_height size - 1) 0 0 1 (any_height size - 1) 0 (mark m.LeftBracket) (any_walk size >> mark m.RightBracket) (omega arith) (omega arith)
+    (moves_any_mark m.LeftBracket)
     (moves_then (any_height size - 1) 0 (any_height size - 1) 0 0 1 (any_walk size) (mark m.RightBracket) (omega arith) (omega arith) (moves_any size) (moves_any_mark m.RightBracket))
 
 moves_begin : (of : Ctype) (name : Option (List ℕ)) (line : ℕ) → Moves 0 1 (param_begin of name line)
@@ -60,7 +63,8 @@ moves_begin of None line = moves_on 0 1 line (type_walk of) (moves_type of)
 moves_begin of (Some name) line = moves_then 0 1 0 1 0 1 (type_walk of) (on line >> named name) (omega arith) (omega arith) (moves_type of) (moves_on 0 1 line (named name) (moves_name name))
 
 pub moves_param : (p : Param) → Moves (param_height p - 1) 1 (param_walk p)
-moves_param p = moves_then (param_height p - 1) 1 0 1 (param_height p - 1) 0 (param_begin p.of p.name p.line) (array_walk p.array p.size) (omega arith) (omega arith) (moves_begin p.of p.name p.line) (moves_array p.array p.size)
+moves_param p = moves_then (param_height p - 1) 1 0 1 (param_height p - 1) 0 (param_begin p.of p.name p.line) (array_walk p.array p.size) (omega arith) (omega arith) (moves_begin p.of p.name p.line)
+    (moves_array p.array p.size)
 
 moves_void : Moves 0 0 past_void
 moves_void = record { nests = λ ts rest e. (void_falls ts rest e).0; takes = λ ts rest e. (void_falls ts rest e).1 }
@@ -85,7 +89,8 @@ moves_void = record { nests = λ ts rest e. (void_falls ts rest e).0; takes = λ
 
 pub moves_params : (xs : List Param) → Moves (highest param_height xs - 1) 0 (params_walk xs)
 moves_params [] = moves_less (0 - 1) 0 0 0 past_void (omega arith) (omega arith) moves_void
-moves_params (x ∷ xs) = moves_less (highest param_height (x ∷ xs) - 1) 0 (highest param_height (x ∷ xs) - 1) (length (x ∷ xs)) (listed param_walk (x ∷ xs)) (omega arith) (omega arith) (moves_listed param_walk param_height 1 (x ∷ xs) moves_param)
+moves_params (x ∷ xs) = moves_less (highest param_height (x ∷ xs) - 1) 0 (highest param_height (x ∷ xs) - 1) (length (x ∷ xs)) (listed param_walk (x ∷ xs)) (omega arith) (omega arith)
+    (moves_listed param_walk param_height 1 (x ∷ xs) moves_param)
 
 moves_result : (of : Option Ctype) → Moves 0 1 (result_walk of)
 moves_result None = moves_any_key k.Void
@@ -105,8 +110,10 @@ moves_head h =
 -- an item has as many nesting tokens as it is high, but for one
 pub moves_item : (x : Item) → Moves (item_height x - 1) 1 (item_walk x)
 moves_item (i.Vars v) = moves_less (max 1 (vars_height v) - 1) 1 (vars_height v - 1) 1 (vars_walk v) (omega arith) (omega arith) (moves_vars v)
-moves_item (i.Proto h) = moves_then (max 1 (head_height h) - 1) 1 (1 + (head_height h - 1)) 1 0 1 (head_walk h) (mark m.Semicolon) (omega arith) (omega arith) (moves_head h) (moves_any_mark m.Semicolon)
-moves_item (i.Function h body) = moves_then (max (head_height h) (stmt_part body).height - 1) 1 (1 + (head_height h - 1)) 1 ((stmt_part body).height - 2) 1 (head_walk h) (stmt_part body).walk (omega arith) (omega arith) (moves_head h) (moves_stmt body)
+moves_item (i.Proto h) = moves_then (max 1 (head_height h) - 1) 1 (1 + (head_height h - 1)) 1 0 1 (head_walk h) (mark m.Semicolon) (omega arith) (omega arith) (moves_head h)
+    (moves_any_mark m.Semicolon)
+moves_item (i.Function h body) = moves_then (max (head_height h) (stmt_part body).height - 1) 1 (1 + (head_height h - 1)) 1 ((stmt_part body).height - 2) 1 (head_walk h) (stmt_part body).walk
+    (omega arith) (omega arith) (moves_head h) (moves_stmt body)
 
 -- what is higher than 64 has at least 64 nesting tokens
 pub unit_nests : (ts : List Token) (tree : Tree) → Derives ts tree → 64 < unit_height tree → 64 ≤ nesting ts
@@ -114,7 +121,8 @@ unit_nests ts tree d high = let f = (moves_each item_walk item_height 1 tree.ite
 
 -- ---- parameters
 
-array_full : (array : Bool) (size : Option Expr) (ts rest : List Token) → array_walk array size ts ≡ Some rest → any_fits 12 size ≡ true → any_height size ≤ 64 → 13 < follow rest → array_at ts ≡ Ok (((array, size), any_height size), rest)
+array_full : (array : Bool) (size : Option Expr) (ts rest : List Token) → array_walk array size ts ≡ Some rest → any_fits 12 size ≡ true → any_height size ≤ 64 → 13 < follow rest
+    → array_at ts ≡ Ok (((array, size), any_height size), rest)
 unfolding array_at
 array_full false None ts rest walks fits low stops =
     let same : ts ≡ rest = cc in
@@ -124,9 +132,11 @@ array_full false (Some x) ts rest walks fits low stops = absurd cc
 array_full true size ts rest walks fits low stops =
     let a = then_some (mark m.LeftBracket) (any_walk size >> mark m.RightBracket) ts rest walks in
     let b = then_some (any_walk size) (mark m.RightBracket) a.0 rest a.2 in
-    let o = optional_full 64 12 m.RightBracket size stay a.0 rest (lit≤ tt) refl refl (then_walk (any_walk size) (mark m.RightBracket >> stay) a.0 b.0 b.1 ∙ then_walk (mark m.RightBracket) stay b.0 rest b.2) fits low in
+    let o = optional_full 64 12 m.RightBracket size stay a.0 rest (lit≤ tt) refl refl (then_walk (any_walk size) (mark m.RightBracket >> stay) a.0 b.0 b.1
+    ∙ then_walk (mark m.RightBracket) stay b.0 rest b.2) fits low in
     let same : o.0 ≡ rest = let e : Some o.0 ≡ Some rest = o.2 in cc in
-    found_to (mark m.LeftBracket ts) _ _ a.0 _ a.1 (bind_to (optional 12 m.RightBracket 64 a.0) _ ((size, any_height size), o.0) _ o.1 (ap (λ (us : List Token). Ok (((true, size), any_height size), us)) same))
+    found_to (mark m.LeftBracket ts) _ _ a.0 _ a.1
+    (bind_to (optional 12 m.RightBracket 64 a.0) _ ((size, any_height size), o.0) _ o.1 (ap (λ (us : List Token). Ok (((true, size), any_height size), us)) same))
 
 -- no name comes next where a parameter without a name goes on
 name_tok : (o : Tok) (t : Token) (ts : List Token) → (o ≡ tok.Name → ⊥) → name_by o t ts ≡ None
@@ -152,11 +162,13 @@ record ParamEnd (p : Param) (ts : List Token) : Type 0 where
   follows : 13 < follow ts
   no_name : name_at ts ≡ None
 
-param_of_full : (p : Param) (ts rest : List Token) → array_walk p.array p.size ts ≡ Some rest → param_fits p ≡ true → param_height p ≤ 64 → ParamEnd p rest → param_of p.of p.name p.line ts ≡ Ok ((p, param_height p), rest)
+param_of_full : (p : Param) (ts rest : List Token) → array_walk p.array p.size ts ≡ Some rest → param_fits p ≡ true → param_height p ≤ 64 → ParamEnd p rest
+    → param_of p.of p.name p.line ts ≡ Ok ((p, param_height p), rest)
 unfolding param_of
 param_of_full p ts rest walks fits low stop = bind_to (array_at ts) _ (((p.array, p.size), param_height p), rest) _ (array_full p.array p.size ts rest walks fits low stop.follows) refl
 
-parameter_by : (p : Param) (name : Option (List ℕ)) (ts us rest : List Token) → p.name ≡ name → param_begin p.of name p.line ts ≡ Some us → array_walk p.array p.size us ≡ Some rest → param_fits p ≡ true → param_height p ≤ 64 → ParamEnd p rest → parameter ts ≡ Ok ((p, param_height p), rest)
+parameter_by : (p : Param) (name : Option (List ℕ)) (ts us rest : List Token) → p.name ≡ name → param_begin p.of name p.line ts ≡ Some us → array_walk p.array p.size us ≡ Some rest
+    → param_fits p ≡ true → param_height p ≤ 64 → ParamEnd p rest → parameter ts ≡ Ok ((p, param_height p), rest)
 unfolding parameter
 parameter_by p None ts us rest is begins walks fits low stop =
     let a = on_then p.line (type_walk p.of) ts us begins in
@@ -201,7 +213,8 @@ begin_type : (of : Ctype) (name : Option (List ℕ)) (line : ℕ) (ts us : List 
 begin_type of None line ts us e = (us, (on_then line (type_walk of) ts us e).1)
 begin_type of (Some name) line ts us e = let a = then_some (type_walk of) (on line >> named name) ts us e in (a.0, a.1)
 
-void_by : (b : Bool) (t : Token) (ts us : List Token) → is_key k.Void t.kind ≡ b → Some (if b then ts else t ∷ ts) ≡ Some us → ((key k.Void (t ∷ ts) ≡ Some us) ⊎ ((key k.Void (t ∷ ts) ≡ None) × (t ∷ ts ≡ us)))
+void_by : (b : Bool) (t : Token) (ts us : List Token) → is_key k.Void t.kind ≡ b → Some (if b then ts else t ∷ ts) ≡ Some us
+    → ((key k.Void (t ∷ ts) ≡ Some us) ⊎ ((key k.Void (t ∷ ts) ≡ None) × (t ∷ ts ≡ us)))
 void_by true t ts us e h = inl (ap (λ (c : Bool). elim c [ true ↦ Some ts | false ↦ None ]) e ∙ h)
 void_by false t ts us e h = inr (ap (λ (c : Bool). elim c [ true ↦ Some ts | false ↦ None ]) e, cc)
 
@@ -209,7 +222,8 @@ void_cases : (ts us : List Token) → past_void ts ≡ Some us → ((key k.Void 
 void_cases [] us e = inr (refl, cc)
 void_cases (t ∷ ts) us e = void_by (is_key k.Void t.kind) t ts us refl e
 
-pub parameters_full : (xs : List Param) (ts us rest : List Token) → params_walk xs ts ≡ Some us → mark m.RightParen us ≡ Some rest → list_all param_fits xs ≡ true → highest param_height xs ≤ 64 → parameters ts ≡ Ok ((xs, highest param_height xs), rest)
+pub parameters_full : (xs : List Param) (ts us rest : List Token) → params_walk xs ts ≡ Some us → mark m.RightParen us ≡ Some rest → list_all param_fits xs ≡ true → highest param_height xs ≤ 64
+    → parameters ts ≡ Ok ((xs, highest param_height xs), rest)
 unfolding parameters param_shape
 parameters_full [] ts us rest walks close fits low = elim (void_cases ts us walks) [
   | inl h ↦ found_to (key k.Void ts) _ _ us _ h (expect_to m.RightParen us rest _ _ close refl)
@@ -299,7 +313,8 @@ vars_item v ts rest walks fits low =
     ends_declr [] ts last rest e close = let same : ts ≡ last = (let h : Some ts ≡ Some last = e in cc) in no_paren m.Semicolon ts rest (omega arith) (ap (mark m.Semicolon) same ∙ close)
     ends_declr (x ∷ xs) ts last rest e close = let a = then_some (mark m.Comma) (declr_walk x >> commas declr_walk xs) ts last e in no_paren m.Comma ts a.0 (omega arith) a.1
 
-    first_name : (xs : List Declr) (ts rest : List Token) → (listed declr_walk xs >> mark m.Semicolon) ts ≡ Some rest → (name : List ℕ) × (us : List Token) × (name_at ts ≡ Some (name, us)) × (mark m.LeftParen us ≡ None)
+    first_name : (xs : List Declr) (ts rest : List Token) → (listed declr_walk xs >> mark m.Semicolon) ts ≡ Some rest → (name : List ℕ) × (us : List Token) × (name_at ts ≡ Some (name, us))
+        × (mark m.LeftParen us ≡ None)
     first_name [] ts rest e = absurd cc
     first_name (x ∷ xs) ts rest e =
         let a = then_some (listed declr_walk (x ∷ xs)) (mark m.Semicolon) ts rest e in
@@ -312,7 +327,8 @@ proto_headed : (h : Head) (us rest : List Token) → mark m.Semicolon us ≡ Som
 unfolding headed
 proto_headed h us rest e = found_to (mark m.Semicolon us) _ _ rest _ e refl
 
-function_headed : (h : Head) (body : Stmt) (us rest : List Token) → params_named h.params ≡ true → (stmt_part body).is_block ≡ true → (stmt_part body).walk us ≡ Some rest → (stmt_part body).fits ≡ true → (stmt_part body).height ≤ 64
+function_headed : (h : Head) (body : Stmt) (us rest : List Token) → params_named h.params ≡ true → (stmt_part body).is_block ≡ true → (stmt_part body).walk us ≡ Some rest
+    → (stmt_part body).fits ≡ true → (stmt_part body).height ≤ 64
     → headed h (head_height h) us ≡ Ok ((i.Function h body, max (head_height h) (stmt_part body).height), rest)
 unfolding headed body_of
 function_headed h body us rest names is walks fits low =
@@ -320,7 +336,8 @@ function_headed h body us rest names is walks fits low =
     none_to (mark m.Semicolon us) _ _ _ (none_of (mark m.Semicolon us) (λ vs e.
     let p = marked m.LeftBrace us b.0 b.1 in let q = first_of m.Semicolon p.token b.0 vs (ap (mark m.Semicolon) (sym p.tokens) ∙ e) in
     let bad : tok.Mark m.LeftBrace ≡ tok.Mark m.Semicolon = sym p.kind ∙ q in cc))
-    (ap (λ (c : Bool). if c then (expect m.LeftBrace us >>= λ begun. block 63 (read_stmt 63) (line_at us) begun >>= λ body. Ok ((i.Function h body.0.0, max (head_height h) body.0.1), body.1)) else Err Wrong) names
+    (ap (λ (c : Bool). if c then
+    (expect m.LeftBrace us >>= λ begun. block 63 (read_stmt 63) (line_at us) begun >>= λ body. Ok ((i.Function h body.0.0, max (head_height h) body.0.1), body.1)) else Err Wrong) names
     ∙ expect_to m.LeftBrace us b.0 _ _ b.1 (bind_to (block 63 (read_stmt 63) (line_at us) b.0) _ ((body, (stmt_part body).height), rest) _ b.2 refl))
 
 item_reads : (x : Item) (ts rest : List Token) → item_walk x ts ≡ Some rest → item_fits x ≡ true → item_height x ≤ 64 → read_item ts ≡ Ok ((x, item_height x), rest)
@@ -361,4 +378,5 @@ item_listing = record {
 pub unit_full : (ts : List Token) (tree : Tree) → UnitOf ts tree → read_items ts ≡ Ok ((tree.items, unit_height tree), [])
 unfolding read_items item_shape
 unit_full ts tree u =
-    repeated_full item_shape 64 Anywhere read_item item_full at_end item_listing tree.items (length ts + 1) ts [] [] u.derives.walk refl u.derives.fits (leb-true (unit_height tree) 64 u.low) (omega arith)
+    repeated_full item_shape 64 Anywhere read_item item_full at_end item_listing tree.items (length ts + 1) ts [] [] u.derives.walk refl u.derives.fits (leb-true (unit_height tree) 64 u.low)
+    (omega arith)

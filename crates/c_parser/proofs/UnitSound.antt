@@ -1,13 +1,12 @@
 -- What is read of items and units derives the tokens.
-use Rattle.std.proofs.Common.{◌≡◌, ℕ, zero, suc, ◌+◌, ◌<◌, ◌≤◌, max, Bool, true, false, not, ◌&&◌, List, [], ◌∷◌, length, Option, Some, None, Result, Ok, Err, refl, sym, ap, ◌∙◌, subst, arith, lit≤}
-use Rattle.std.specs.Prelude.{if◌then◌else◌, is_some, nat_le}
+use Rattle.std.proofs.Common.{◌≡◌, ℕ, suc, ◌+◌, ◌≤◌, max, Bool, true, false, ◌&&◌, List, [], ◌∷◌, length, Option, Some, None, Ok, Err, refl, sym, ap, ◌∙◌, subst, arith, lit≤}
+use Rattle.std.specs.Prelude.{if◌then◌else◌}
 use Rattle.std.specs.List.{list_all}
-use Rattle.std.proofs.lemmas.Bool.{le-leb, leb-true}
+use Rattle.std.proofs.lemmas.Bool.{le-leb}
 use Rattle.nm_base.specs.declared.operator.Ctype.{Ctype}
 use Rattle.nm_base.specs.declared.operator.Ctype.TheVariants.{Int, Unsigned}
 use Rattle.c_lexer.specs.declared.token.Token.{Token}
 use Rattle.c_lexer.specs.declared.token.Tok.{Tok}
-use Rattle.c_lexer.specs.declared.token.Tok.TheVariants as tok
 use Rattle.c_lexer.specs.declared.token.Key.TheVariants as k
 use Rattle.c_lexer.specs.declared.token.Mark.{Mark}
 use Rattle.c_lexer.specs.declared.token.Mark.TheVariants as m
@@ -17,22 +16,23 @@ use Rattle.c_tree.specs.declared.tree.Head.{Head}
 use Rattle.c_tree.specs.declared.tree.Item.{Item}
 use Rattle.c_tree.specs.declared.tree.Item.TheVariants as i
 use Rattle.c_tree.specs.declared.tree.Vars.{Vars}
-use Rattle.c_tree.specs.declared.tree.Tree.{Tree}
 use Rattle.c_tree.specs.declared.tree.Stmt.{Stmt}
 use Rattle.c_tree.specs.declared.tree.Stmt.TheVariants as s
 use Rattle.c_parser.specs.Tokens.{is_key}
-use Rattle.c_parser.specs.Walk.{Walk, ◌>>◌, stay, mark, key, named, each, listed, on}
-use Rattle.c_parser.specs.Stmt.{highest, any_walk, any_height, any_fits, type_walk, declr_walk, vars_walk, vars_fit, vars_height, stmt_part}
-use Rattle.c_parser.specs.Unit.{array_walk, param_begin, param_walk, param_fits, param_height, past_void, params_walk, params_named, result_walk, head_walk, head_fits, head_height, item_walk, item_fits, item_height, Derives, unit_height, UnitOf}
-use Rattle.c_parser.specs.Reader.{Failure, Wrong, Reader, ◌>>=◌, if_found, at_mark, after, expect}
+use Rattle.c_parser.specs.Walk.{◌>>◌, mark, key, named, listed, on}
+use Rattle.c_parser.specs.Stmt.{highest, any_walk, any_height, any_fits, type_walk, stmt_part}
+use Rattle.c_parser.specs.Unit.{array_walk, param_begin, param_walk, param_fits, param_height, past_void, params_walk, params_named, result_walk, head_walk, head_fits, head_height, item_walk}
+use Rattle.c_parser.specs.Unit.{item_fits, item_height, UnitOf}
+use Rattle.c_parser.specs.Reader.{Wrong, Reader, ◌>>=◌, expect}
 use Rattle.c_parser.specs.ReadExpr.{line_at, is_separator}
-use Rattle.c_parser.specs.ReadStmt.{repeated, separated, after_key, expect_name, name_at, type_at, declarations, optional, locals, statements, block, read_stmt}
+use Rattle.c_parser.specs.ReadStmt.{name_at, type_at, declarations, optional, locals, statements, block, read_stmt}
 use Rattle.c_parser.specs.ReadUnit.{array_at, param_of, parameter, parameters, body_of, headed, function_of, vars_of, item_of, read_item, at_end, read_items, tree_of}
-use Rattle.c_parser.proofs.Steps.{marked, mark_is, on_own, then_some}
+use Rattle.c_parser.proofs.Steps.{marked, on_own}
 use Rattle.c_parser.proofs.Spells.{then_walk, both}
 use Rattle.c_parser.proofs.Holds.{Holds, holds_ok, holds_err, holds_bind, holds_expect, holds_found, holds_if}
 use Rattle.c_parser.proofs.StmtLaws.{part-Block}
-use Rattle.c_parser.proofs.StmtSound.{keyed, Shape, Is, Until, Commas, Any, IsPart, IsStmt, repeated_sound, separated_sound, optional_sound, holds_name, Named, name_is, type_is, vars_shape, declarations_sound, block_sound, stmt_sound}
+use Rattle.c_parser.proofs.StmtSound.{keyed, Shape, Is, Any, IsStmt, repeated_sound, separated_sound, optional_sound, holds_name, name_is, type_is, vars_shape}
+use Rattle.c_parser.proofs.StmtSound.{declarations_sound, block_sound, stmt_sound}
 
 -- ---- parameters
 
@@ -134,7 +134,8 @@ parameters_sound ts =
         low = c.low;
       };
     })
-    (λ rest close. holds_ok P (([], 0), rest) (record { walks = then_walk past_void (mark m.RightParen) ts ts (mark_walk m.RightParen ts rest close) ∙ close; fit = refl; high = refl; low = omega arith })))
+    (λ rest close. holds_ok P (([], 0), rest)
+    (record { walks = then_walk past_void (mark m.RightParen) ts ts (mark_walk m.RightParen ts rest close) ∙ close; fit = refl; high = refl; low = omega arith })))
     (λ us void.
     holds_expect P m.RightParen us _ (λ rest close.
     holds_ok P (([], 0), rest) (record { walks = then_walk past_void (mark m.RightParen) ts us (void_walk ts us void) ∙ close; fit = refl; high = refl; low = omega arith })))
@@ -152,7 +153,8 @@ block_is below line lower ts =
     holds_bind P (λ (x : (List Stmt × ℕ) × List Token). Unit {0}) (statements lower x.1) _ (record { of = λ x e. tt }) (λ y b.
     holds_expect P m.RightBrace y.1 _ (λ rest close. holds_ok P ((s.Block x.0.0 y.0.0 line, suc (max x.0.1 y.0.1)), rest) (ap (λ p. p.is_block) (part-Block x.0.0 y.0.0 line)))))
 
-body_sound : (h : Head) (high : ℕ) (start us : List Token) → head_walk h start ≡ Some us → head_fits h ≡ true → head_height h ≡ high → high ≤ 64 → params_named h.params ≡ true → Holds (Is item_shape 64 start) (expect m.LeftBrace us >>= λ begun. block 63 (read_stmt 63) (line_at us) begun >>= λ body. Ok ((i.Function h body.0.0, max high body.0.1), body.1))
+body_sound : (h : Head) (high : ℕ) (start us : List Token) → head_walk h start ≡ Some us → head_fits h ≡ true → head_height h ≡ high → high ≤ 64 → params_named h.params ≡ true
+    → Holds (Is item_shape 64 start) (expect m.LeftBrace us >>= λ begun. block 63 (read_stmt 63) (line_at us) begun >>= λ body. Ok ((i.Function h body.0.0, max high body.0.1), body.1))
 unfolding item_shape
 body_sound h high start us walk fits is low names =
     let P = Is item_shape 64 start in
@@ -188,7 +190,8 @@ headed_sound h high start us walk fits is low =
       low = omega (arith, low);
     }))
 
-function_sound : (of : Option Ctype) (name : List ℕ) (start ts us vs : List Token) → result_walk of start ≡ Some ts → on (line_at ts) ts ≡ Some ts → named name ts ≡ Some us → mark m.LeftParen us ≡ Some vs → Holds (Is item_shape 64 start) (function_of of name (line_at ts) vs)
+function_sound : (of : Option Ctype) (name : List ℕ) (start ts us vs : List Token) → result_walk of start ≡ Some ts → on (line_at ts) ts ≡ Some ts → named name ts ≡ Some us
+    → mark m.LeftParen us ≡ Some vs → Holds (Is item_shape 64 start) (function_of of name (line_at ts) vs)
 unfolding function_of
 function_sound of name start ts us vs result line is paren =
     let P = Is item_shape 64 start in

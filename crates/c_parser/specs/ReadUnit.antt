@@ -1,5 +1,5 @@
 -- Reading items and units.
-use Rattle.std.specs.Prelude.{ℕ, ◌+◌, max, Bool, true, false, if◌then◌else◌, List, [], ◌∷◌, length, Option, Some, None, Result, Ok, Err}
+use Rattle.std.specs.Prelude.{ℕ, ◌+◌, max, Bool, true, false, if◌then◌else◌, List, [], ◌∷◌, length, Option, Some, None, Ok, Err}
 use Rattle.nm_base.specs.declared.operator.Ctype.{Ctype}
 use Rattle.c_lexer.specs.declared.token.Token.{Token}
 use Rattle.c_lexer.specs.declared.token.Key.TheVariants as k
@@ -10,7 +10,7 @@ use Rattle.c_tree.specs.declared.tree.Head.{Head}
 use Rattle.c_tree.specs.declared.tree.Item.{Item}
 use Rattle.c_tree.specs.declared.tree.Item.TheVariants as i
 use Rattle.c_tree.specs.declared.tree.Tree.{Tree}
-use Rattle.c_parser.specs.Reader.{Failure, Wrong, Reader, ◌>>=◌, if_found, after, expect}
+use Rattle.c_parser.specs.Reader.{Wrong, Reader, ◌>>=◌, if_found, after, expect}
 use Rattle.c_parser.specs.ReadExpr.{line_at, is_separator}
 use Rattle.c_parser.specs.ReadStmt.{repeated, separated, after_key, expect_name, name_at, type_at, declarations, optional, block, read_stmt}
 use Rattle.c_parser.specs.Unit.{params_named}

@@ -200,35 +200,14 @@ fn run_node(alloc: Global, part: Boxed<Expr>, line: u32) -> Result<Boxed<Stmt>, 
 
 // ---- statements without statements in them
 
-/// What follows `break`.
+/// A statement of a keyword alone, up to its semicolon.
 #[tactic(auto, unfolding(crate::specs::ReadStmt::leaf))]
-fn breaks(
-    alloc: Global,
-    tokens: &[Token],
-    line: u32,
-) -> Result<(Boxed<Stmt>, u8, &[Token]), Refusal>
-    ensures value { Gives (λ x. ((x.0, x.1), x.2.now)) result (spec.leaf (made.Break line) tokens.now) }
+fn leaf(tokens: &[Token], stmt: Boxed<Stmt>) -> Result<(Boxed<Stmt>, u8, &[Token]), Refusal>
+    ensures value { Gives (λ x. ((x.0, x.1), x.2.now)) result (spec.leaf stmt tokens.now) }
     ensures height { IfOk result (λ x. x.1 ≡ 1) }
     ensures shorter { IfOk result (λ x. length x.2.now < length tokens.now) }
 {
     let rest = expect(tokens, Mark::Semicolon)?;
-    let stmt = Boxed::new(alloc, Stmt::Break { line })?;
-    Ok((stmt, 1, rest))
-}
-
-/// What follows `continue`.
-#[tactic(auto, unfolding(crate::specs::ReadStmt::leaf))]
-fn continues(
-    alloc: Global,
-    tokens: &[Token],
-    line: u32,
-) -> Result<(Boxed<Stmt>, u8, &[Token]), Refusal>
-    ensures value { Gives (λ x. ((x.0, x.1), x.2.now)) result (spec.leaf (made.Continue line) tokens.now) }
-    ensures height { IfOk result (λ x. x.1 ≡ 1) }
-    ensures shorter { IfOk result (λ x. length x.2.now < length tokens.now) }
-{
-    let rest = expect(tokens, Mark::Semicolon)?;
-    let stmt = Boxed::new(alloc, Stmt::Continue { line })?;
     Ok((stmt, 1, rest))
 }
 
@@ -409,8 +388,8 @@ pub fn statement(
         Some(StmtForm::Do) => done(alloc, rest, line, below),
         Some(StmtForm::For) => counted(alloc, rest, line, below),
         Some(StmtForm::Switch) => switched(alloc, rest, line, below),
-        Some(StmtForm::Break) => breaks(alloc, rest, line),
-        Some(StmtForm::Continue) => continues(alloc, rest, line),
+        Some(StmtForm::Break) => leaf(rest, Boxed::new(alloc, Stmt::Break { line })?),
+        Some(StmtForm::Continue) => leaf(rest, Boxed::new(alloc, Stmt::Continue { line })?),
         Some(StmtForm::Return) => returned(alloc, rest, line, below),
         None => run(alloc, tokens, line, below),
     }

@@ -4,7 +4,7 @@ use Rattle.c_tree.specs.declared.tree.Expr.{Expr}
 use Rattle.c_tree.specs.declared.tree.Expr.TheVariants.{Call}
 use Rattle.c_tree.specs.declared.program.Slot.{Slot}
 use Rattle.c_checker.specs.declared.entries.Thing.{Thing}
-use Rattle.c_checker.specs.Found.{Gives, Refuses, fine}
+use Rattle.c_checker.specs.Found.{Gives, Refuses}
 use Rattle.c_checker.specs.Scope.{names_of, find}
 use Rattle.c_checker.specs.Expressions as spec
 use Rattle.c_checker.specs.Expressions.{part_of}

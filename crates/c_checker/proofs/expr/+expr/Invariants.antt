@@ -10,6 +10,9 @@ use Rattle.c_checker.proofs.expr.+expr.Given as goal
 abbrev pub decreases-value : goal.decreases-value
 decreases-value l = 8 * size-Expr l.e.now
 
+abbrev pub decreases-boxed : goal.decreases-boxed
+decreases-boxed l = 8 * size-Expr l.e.now + 1
+
 abbrev pub decreases-place : goal.decreases-place
 decreases-place l = 8 * size-Expr l.e.now
 
@@ -17,19 +20,19 @@ abbrev pub decreases-target : goal.decreases-target
 decreases-target l = 8 * size-Expr l.e.now + 1
 
 abbrev pub decreases-element : goal.decreases-element
-decreases-element l = 8 * size-Expr l.index.now + 1
+decreases-element l = 8 * size-Expr l.index.now + 2
 
 abbrev pub decreases-argument : goal.decreases-argument
 decreases-argument l = 8 * size-Expr l.arg.now + 1
 
 abbrev pub decreases-both : goal.decreases-both
-decreases-both l = 8 * max (size-Expr l.left.now) (size-Expr l.right.now) + 1
+decreases-both l = 8 * max (size-Expr l.left.now) (size-Expr l.right.now) + 2
 
 abbrev pub decreases-stored : goal.decreases-stored
 decreases-stored l = 8 * max (size-Expr l.place.now) (size-Expr l.stored.now) + 2
 
 abbrev pub decreases-three : goal.decreases-three
-decreases-three l = 8 * max (size-Expr l.first.now) (max (size-Expr l.second.now) (size-Expr l.third.now)) + 1
+decreases-three l = 8 * max (size-Expr l.first.now) (max (size-Expr l.second.now) (size-Expr l.third.now)) + 2
 
 abbrev pub decreases-arguments : goal.decreases-arguments
 decreases-arguments l = 8 * most size-Expr l.args.now + 2
@@ -82,25 +85,25 @@ abbrev pub decreases-arguments-loop-args : goal.decreases-arguments-loop-args
 decreases-arguments-loop-args l = length l.args
 
 abbrev pub decreases-unary : goal.decreases-unary
-decreases-unary l = 8 * size-Expr l.part.now + 1
+decreases-unary l = 8 * size-Expr l.part.now + 2
 
 abbrev pub decreases-bump : goal.decreases-bump
 decreases-bump l = 8 * size-Expr l.part.now + 2
 
 abbrev pub decreases-binary : goal.decreases-binary
-decreases-binary l = 8 * max (size-Expr l.left.now) (size-Expr l.right.now) + 2
+decreases-binary l = 8 * max (size-Expr l.left.now) (size-Expr l.right.now) + 3
 
 abbrev pub decreases-and : goal.decreases-and
-decreases-and l = 8 * max (size-Expr l.left.now) (size-Expr l.right.now) + 2
+decreases-and l = 8 * max (size-Expr l.left.now) (size-Expr l.right.now) + 3
 
 abbrev pub decreases-or : goal.decreases-or
-decreases-or l = 8 * max (size-Expr l.left.now) (size-Expr l.right.now) + 2
+decreases-or l = 8 * max (size-Expr l.left.now) (size-Expr l.right.now) + 3
 
 abbrev pub decreases-comma : goal.decreases-comma
-decreases-comma l = 8 * max (size-Expr l.left.now) (size-Expr l.right.now) + 2
+decreases-comma l = 8 * max (size-Expr l.left.now) (size-Expr l.right.now) + 3
 
 abbrev pub decreases-choose : goal.decreases-choose
-decreases-choose l = 8 * max (size-Expr l.test.now) (max (size-Expr l.yes.now) (size-Expr l.no.now)) + 2
+decreases-choose l = 8 * max (size-Expr l.test.now) (max (size-Expr l.yes.now) (size-Expr l.no.now)) + 3
 
 abbrev pub decreases-assign : goal.decreases-assign
 decreases-assign l = 8 * max (size-Expr l.place.now) (size-Expr l.value.now) + 3

@@ -1,7 +1,6 @@
-use Rattle.std.proofs.Common.{arith, ◌≡◌, ℕ, ◌≤◌, List, ◌∷◌, length, map, drop, subst, sym, ap, ◌∙◌}
-use Rattle.c_tree.specs.declared.tree.Stmt.{Stmt}
+use Rattle.std.proofs.Common.{List, ◌∷◌, map, drop, subst, sym}
 use Rattle.c_tree.specs.declared.tree.Arm.{Arm}
-use Rattle.c_checker.specs.Found.{Gives, Refuses, fine}
+use Rattle.c_checker.specs.Found.{Refuses}
 use Rattle.c_checker.specs.Statements as spec
 use Rattle.c_checker.specs.Statements.{stmt_of, arm_of}
 use Rattle.c_checker.proofs.Found.{gives_err, refuses_left, first_is}
@@ -11,10 +10,9 @@ use Rattle.c_checker.proofs.stmts.+stmt.Goals as goal
 
 pub stmt-returns-in-Block : goal.stmt-returns-in-Block
 stmt-returns-in-Block t c =
-    let h0 = rw c.as_slice-in-Block.ensures at c.block_from.ensures in
+    let h0 = rw c.as_slice-in-Block.ensures at c.block.ensures in
     let h1 = rw c.as_slice.ensures at h0 in
-    let h2 = rw c.len-from.ensures at h1 in
-    check_form _ _ _ _ _ _ _ _ _ c.in-Block.is (forms.stmt_block _ _ c.in-Block.locals c.in-Block.list c.in-Block.line) h2
+    check_form _ _ _ _ _ _ _ _ _ c.in-Block.is (forms.stmt_block _ _ c.in-Block.locals c.in-Block.list c.in-Block.line) h1
 
 pub stmt-returns-in-Run : goal.stmt-returns-in-Run
 stmt-returns-in-Run t c =
@@ -56,3 +54,15 @@ pub stmt-returns-in-Switch : goal.stmt-returns-in-Switch
 stmt-returns-in-Switch t c =
     let h0 = rw c.as_slice-in-Switch.ensures at c.switch_stmt.ensures in
     check_form _ _ _ _ _ _ _ _ _ c.in-Switch.is (forms.stmt_switch _ _ c.in-Switch.on c.in-Switch.arms c.in-Switch.line) h0
+
+pub arms-returns-in_err-made : goal.arms-returns-in_err-made
+arms-returns-in_err-made t c =
+    let arm = arm_of c.args.within.now.functions.now c.args.within.now.returns in
+    let xs = c.loop-arms.arms.now in
+    let first = c.first-item.result in
+    let head = first_is xs first c.in-len1-up.len_at_least c.first-item.is in
+    let f = c.in_err-made.field-0.0 in
+    let refused = λ (ys : List Arm). Refuses (spec.arms (map arm ys) c.loop-arms.before c.loop-arms.done c.args.line c.args.around c.loop-arms.body).faults f in
+    let here : refused (first ∷ drop 1 xs) =
+    refuses_left ((arm first).check c.loop-arms.before c.args.line c.args.around c.loop-arms.body).faults _ f c.in_err-made.ensures.found in
+    gives_err _ _ _ f (subst (λ found. Refuses found.faults f) (sym c.loop-arms.invariant.found) (subst refused (sym head) here)) c.from_residual.ensures.1

@@ -1,5 +1,5 @@
 use Rattle.std.proofs.Common.{◌≡◌, ℕ, ◌+◌, ◌*◌, ◌≤◌, [], length, map, Option, None, Some}
-use Rattle.std.specs.Prelude.{max, option_map, unwrap_or}
+use Rattle.std.specs.Prelude.{max}
 use denote.Param.Weighed.{most}
 use Rattle.c_tree.specs.declared.tree.Stmt.{Stmt, size-Stmt}
 use Rattle.c_tree.specs.declared.tree.Arm.{size-Arm}
@@ -38,6 +38,9 @@ decreases-sequence l = 8 * most size-Stmt l.list.now + 1
 abbrev pub decreases-block_from : goal.decreases-block_from
 decreases-block_from l = 8 * most size-Stmt l.list.now + 2
 
+abbrev pub decreases-block : goal.decreases-block
+decreases-block l = 8 * most size-Stmt l.list.now + 3
+
 abbrev pub decreases-arm : goal.decreases-arm
 decreases-arm l = 8 * size-Arm l.arm.now
 
@@ -49,7 +52,7 @@ decreases-switch_stmt l = 8 * most size-Arm l.list.now + 2
 
 abbrev pub invariant-sequence-loop-list : goal.invariant-sequence-loop-list
 invariant-sequence-loop-list l =
-    let part = stmt_of l.functions l.returns in
+    let part = stmt_of l.within.functions.now l.within.returns in
     record {
       no_deeper : most size-Stmt l.list ≤ most size-Stmt l.fn.list;
       found : spec.sequence [] (map part l.fn.list) l.around l.fn.body ≡ spec.sequence l.done (map part l.list) l.around l.body;
@@ -60,7 +63,7 @@ decreases-sequence-loop-list l = length l.list
 
 abbrev pub invariant-arms-loop-arms : goal.invariant-arms-loop-arms
 invariant-arms-loop-arms l =
-    let part = arm_of l.functions l.returns in
+    let part = arm_of l.within.functions.now l.within.returns in
     record {
       no_deeper : most size-Arm l.arms ≤ most size-Arm l.fn.arms;
       found : spec.arms (map part l.fn.arms) [] [] l.line l.around l.fn.body ≡ spec.arms (map part l.arms) l.before l.done l.line l.around l.body;

@@ -56,4 +56,4 @@ returns-in-Block c =
     body_form _ _ _ _ _ _ _ _ _ c.in-Block.is (forms.stmt_block _ _ c.in-Block.locals c.in-Block.list c.in-Block.line) h2
 
 pub returns-in-Empty : goal.returns-in-Empty
-returns-in-Empty c = alone_form _ _ _ _ _ _ _ (is_plain c.args.functions.now c.args.returns c.args.s.now c.in-Empty.line c.in-Empty.is) c.alone.ensures
+returns-in-Empty c = alone_form _ _ _ _ _ _ _ (is_plain c.args.within.now.functions.now c.args.within.now.returns c.args.s.now c.in-Empty.line c.in-Empty.is) c.alone.ensures

@@ -1,6 +1,5 @@
-use Rattle.std.proofs.Common.{◌≡◌, ◌⊎◌, length}
-use Rattle.c_parser.specs.Faults.{IsLine}
-use Rattle.c_parser.proofs.FaultLines.{Within, NestsWithin, NestSo}
+use Rattle.std.proofs.Common.{length}
+use Rattle.c_parser.proofs.FaultLines.{NestsWithin, NestSo}
 use Rattle.c_parser.proofs.parser.nesting_line.Given as goal
 
 abbrev pub invariant-loop-tokens : goal.invariant-loop-tokens

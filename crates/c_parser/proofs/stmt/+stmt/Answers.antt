@@ -11,19 +11,23 @@ pub statements-returns-then-ends_list-clause-value : goal.statements-returns-the
 unfolding statements
 statements-returns-then-ends_list-clause-value t c =
     let all = repeated list_end (read_stmt c.args.below) (length c.args.tokens.now + 1) c.args.tokens.now in
-    repeats_end list_end (read_stmt c.args.below) c.loop-alloc.list.items c.loop-alloc.highest c.loop-alloc.rest.now c.loop-alloc.rest.now all (ends c.loop-alloc.rest.now (sym c.ends_list.ensures ∙ c.if-ends_list.true)) c.loop-alloc.invariant.rest
+    repeats_end list_end (read_stmt c.args.below) c.loop-alloc.list.items c.loop-alloc.highest c.loop-alloc.rest.now c.loop-alloc.rest.now all (ends c.loop-alloc.rest.now (sym c.ends_list.ensures
+    ∙ c.if-ends_list.true)) c.loop-alloc.invariant.rest
 
 pub statements-returns-in_err-stmt-clause-value : goal.statements-returns-in_err-stmt-clause-value
 unfolding statements
 statements-returns-in_err-stmt-clause-value t c =
     let all = repeated list_end (read_stmt c.args.below) (length c.args.tokens.now + 1) c.args.tokens.now in
     let p = err_from_is_err_and c.from_residual.result c.from_residual.ensures.1 in
-    rw (p.1, p.2) (repeats_fail list_end (read_stmt c.args.below) c.in_err-stmt.field-0.0 c.loop-alloc.list.items c.loop-alloc.highest c.loop-alloc.rest.now all (goes c.loop-alloc.rest.now (sym c.ends_list.ensures ∙ c.if-ends_list.false)) c.in_err-stmt.ensures.value c.loop-alloc.invariant.rest)
+    rw (p.1, p.2)
+    (repeats_fail list_end (read_stmt c.args.below) c.in_err-stmt.field-0.0 c.loop-alloc.list.items c.loop-alloc.highest c.loop-alloc.rest.now all
+    (goes c.loop-alloc.rest.now (sym c.ends_list.ensures ∙ c.if-ends_list.false)) c.in_err-stmt.ensures.value c.loop-alloc.invariant.rest)
 
 pub statements-loop-alloc-preserved : goal.statements-loop-alloc-preserved
 statements-loop-alloc-preserved t c =
     let all = repeated list_end (read_stmt c.args.below) (length c.args.tokens.now + 1) c.args.tokens.now in
-    let next = repeats_step list_end (read_stmt c.args.below) c.loop-alloc.list.items c.loop-alloc.highest c.loop-alloc.rest.now all (c.in_ok-stmt.stmt, c.in_ok-stmt.height) c.in_ok-stmt.next.now (goes c.loop-alloc.rest.now (sym c.ends_list.ensures ∙ c.if-ends_list.false))
+    let next = repeats_step list_end (read_stmt c.args.below) c.loop-alloc.list.items c.loop-alloc.highest c.loop-alloc.rest.now all (c.in_ok-stmt.stmt, c.in_ok-stmt.height) c.in_ok-stmt.next.now
+    (goes c.loop-alloc.rest.now (sym c.ends_list.ensures ∙ c.if-ends_list.false))
     c.in_ok-stmt.ensures.value c.in_ok-stmt.ensures.shorter c.loop-alloc.invariant.rest in
     rw (c.in_ok-push.ensures.items, c.into_inner.ensures, c.higher-highest.ensures) (record {
       low = omega (arith, c.in_ok-stmt.ensures.height);
@@ -44,13 +48,16 @@ arms-returns-in_err-arm-clause-value t c =
     let item = arm c.args.below (read_stmt c.args.below) in
     let all = repeated (after RightBrace) item (length c.args.tokens.now + 1) c.args.tokens.now in
     let p = err_from_is_err_and c.from_residual.result c.from_residual.ensures.1 in
-    rw (p.1, p.2) (repeats_fail (after RightBrace) item c.in_err-arm.field-0.0 c.loop-next.list.items c.loop-next.highest c.loop-next.rest.now all c.in_default.ensures.value c.in_err-arm.ensures.value c.loop-next.invariant.rest)
+    rw (p.1, p.2)
+    (repeats_fail
+    (after RightBrace) item c.in_err-arm.field-0.0 c.loop-next.list.items c.loop-next.highest c.loop-next.rest.now all c.in_default.ensures.value c.in_err-arm.ensures.value c.loop-next.invariant.rest)
 
 pub arms-loop-next-preserved : goal.arms-loop-next-preserved
 arms-loop-next-preserved t c =
     let item = arm c.args.below (read_stmt c.args.below) in
     let all = repeated (after RightBrace) item (length c.args.tokens.now + 1) c.args.tokens.now in
-    let next = repeats_step (after RightBrace) item c.loop-next.list.items c.loop-next.highest c.loop-next.rest.now all (c.in_ok-arm.arm, c.in_ok-arm.height) c.in_ok-arm.next.now c.in_default.ensures.value
+    let next = repeats_step (after RightBrace) item c.loop-next.list.items c.loop-next.highest c.loop-next.rest.now all
+    (c.in_ok-arm.arm, c.in_ok-arm.height) c.in_ok-arm.next.now c.in_default.ensures.value
     c.in_ok-arm.ensures.value c.in_ok-arm.ensures.shorter c.loop-next.invariant.rest in
     rw (c.in_ok-push.ensures.items, c.higher-highest.ensures) (record {
       low = omega (arith, c.in_ok-arm.ensures.height);

@@ -1,4 +1,4 @@
-use Rattle.std.proofs.Common.{rules, arith, ◌+◌, length, sym, subst}
+use Rattle.std.proofs.Common.{arith, ◌+◌, length, sym, subst}
 use Rattle.std.proofs.lemmas.Result.{err_from_is_err_and}
 use Rattle.c_parser.specs.Reader.{Fails}
 use Rattle.c_parser.specs.ReadStmt.{separated}
@@ -18,23 +18,30 @@ pub returns-in_err-param-clause-value : goal.returns-in_err-param-clause-value
 returns-in_err-param-clause-value c =
     let all = separated is_separator (parameter) (length c.args.tokens.now + 1) c.args.tokens.now in
     let p = err_from_is_err_and c.from_residual.result c.from_residual.ensures.1 in
-    rw (p.1, p.2) (separates_fail is_separator (parameter) c.in_err-param.field-0.0 c.loop-list.list.items c.loop-list.highest c.loop-list.rest.now all c.in_err-param.ensures.value c.loop-list.invariant.rest)
+    rw (p.1, p.2)
+    (separates_fail is_separator (parameter) c.in_err-param.field-0.0 c.loop-list.list.items c.loop-list.highest c.loop-list.rest.now all c.in_err-param.ensures.value c.loop-list.invariant.rest)
 
 pub returns-in_default-clause-value : goal.returns-in_default-clause-value
 returns-in_default-clause-value c =
     let all = separated is_separator (parameter) (length c.args.tokens.now + 1) c.args.tokens.now in
-    subst (λ e. Fails e all) (sym c.wrong.ensures) (separates_wrong is_separator (parameter) c.loop-list.list.items c.loop-list.highest c.loop-list.rest.now all (c.in_ok-param.param, c.in_ok-param.height) c.in_ok-param.next.now c.in_ok-param.ensures.value c.in_default.ensures.value c.loop-list.invariant.rest)
+    subst (λ e. Fails e all) (sym c.wrong.ensures)
+    (separates_wrong is_separator (parameter) c.loop-list.list.items c.loop-list.highest c.loop-list.rest.now all
+    (c.in_ok-param.param, c.in_ok-param.height) c.in_ok-param.next.now c.in_ok-param.ensures.value c.in_default.ensures.value c.loop-list.invariant.rest)
 
 pub returns-then-not-more-clause-value : goal.returns-then-not-more-clause-value
 returns-then-not-more-clause-value c =
     let all = separated is_separator (parameter) (length c.args.tokens.now + 1) c.args.tokens.now in
-    let ends = separates_end is_separator (parameter) c.loop-list.list.items c.loop-list.highest c.loop-list.rest.now all (c.in_ok-param.param, c.in_ok-param.height) c.in_ok-param.next.now c.in-Some.next.now c.in_ok-param.ensures.value (rw (sym c.if-not-more.true) c.in-Some.ensures.value) c.loop-list.invariant.rest in
+    let ends = separates_end is_separator (parameter) c.loop-list.list.items c.loop-list.highest c.loop-list.rest.now all
+    (c.in_ok-param.param, c.in_ok-param.height) c.in_ok-param.next.now c.in-Some.next.now c.in_ok-param.ensures.value
+    (rw (sym c.if-not-more.true) c.in-Some.ensures.value) c.loop-list.invariant.rest in
     rw (c.in_ok-push.ensures.items, c.higher-highest.ensures) ends
 
 pub loop-list-preserved : goal.loop-list-preserved
 loop-list-preserved c =
     let all = separated is_separator (parameter) (length c.args.tokens.now + 1) c.args.tokens.now in
-    let next = separates_step is_separator (parameter) c.loop-list.list.items c.loop-list.highest c.loop-list.rest.now all (c.in_ok-param.param, c.in_ok-param.height) c.in_ok-param.next.now c.in-Some.next.now c.in_ok-param.ensures.value (rw (sym c.if-not-more.false) c.in-Some.ensures.value) (omega (arith, c.in_ok-param.ensures.shorter, c.in-Some.ensures.shorter)) c.loop-list.invariant.rest in
+    let next = separates_step is_separator (parameter) c.loop-list.list.items c.loop-list.highest c.loop-list.rest.now all
+    (c.in_ok-param.param, c.in_ok-param.height) c.in_ok-param.next.now c.in-Some.next.now c.in_ok-param.ensures.value (rw (sym c.if-not-more.false) c.in-Some.ensures.value)
+    (omega (arith, c.in_ok-param.ensures.shorter, c.in-Some.ensures.shorter)) c.loop-list.invariant.rest in
     rw (c.in_ok-push.ensures.items, c.higher-highest.ensures) (record {
       low = omega (arith, c.in_ok-param.ensures.height);
       shorter = omega (arith, c.in_ok-param.ensures.shorter, c.in-Some.ensures.shorter);
