@@ -1,0 +1,71 @@
+//! A process that runs code, as a process of a run.
+
+use crate::process::{CProc, end_with, look_at};
+use nm_base::{Kind, Letter, ProcNo, WantOfMemory};
+use processes::{Look, Proc};
+use std::alloc::Global;
+
+impl<'c> Proc for CProc<'c> {
+    ghost use Rattle.std.specs.Prelude.{◌≡◌, ℕ};
+    ghost use Rattle.stack_code.specs.Code.{Code};
+    ghost use Rattle.stack_code.specs.View.{code_of};
+    ghost use Rattle.proc_machine.specs.Machines.{setting_of};
+    ghost use Rattle.c_process.specs.Following.{Follows};
+    ghost use Rattle.c_process.specs.Laws.{follows_lawful, follows_shows};
+
+    ghost stands_for = { λ x s letters k. Follows x.machine x.look s letters k × (k ≡ x.count) };
+
+    ghost Origin = { Code × ℕ };
+
+    ghost origin_of = { λ x. (code_of x.code.now, (setting_of x.machine).count) };
+
+    ghost name_of = { λ x. x.me };
+
+    ghost count_of = { λ x. x.count };
+
+    ghost look_of = { λ x. x.look };
+
+    fn me(&self) -> ProcNo {
+        self.me
+    }
+
+    fn count(&self) -> u32 {
+        self.count
+    }
+
+    fn look(&self) -> Look {
+        self.look
+    }
+
+    fn step(&mut self, alloc: Global) -> Result<(Kind, Option<Letter>), WantOfMemory> {
+        self.machine.reserve_output(alloc)?;
+        let (kind, letter) = self.machine.advance();
+        self.count += 1;
+        self.look = look_at(self.machine.pending(), end_with(kind));
+        Ok((kind, letter))
+    }
+
+    fn give(&mut self, letter: Letter) -> Kind {
+        let kind = self.machine.accept(letter);
+        self.count += 1;
+        self.look = look_at(self.machine.pending(), end_with(kind));
+        kind
+    }
+
+    fn copy(&self, alloc: Global) -> Result<Self, WantOfMemory> {
+        let machine = self.machine.copy(alloc)?;
+        Ok(CProc {
+            code: self.code,
+            machine,
+            me: self.me,
+            count: self.count,
+            look: self.look,
+        })
+    }
+
+    ghost lawful = { λ x s letters k h. follows_lawful x.machine x.look s letters k h.0 };
+
+    ghost shows = { λ x s letters k h. follows_shows x.machine x.look s letters k h.0 };
+
+    ghost counts = { λ x s letters k h. h.1 };
+}
