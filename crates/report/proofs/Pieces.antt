@@ -1,5 +1,34 @@
 -- Texts that are printed one after the other.
-use Rattle.std.proofs.Common.{◌≡◌, ◌≤◌, ℕ, ◌+◌, List, [], ◌++◌, length, take, drop, fold, get_or, ◌∷◌, ◌<◌, Bor, Option, None, Some, Ok, Err, Result, refl, ap, sym, ◌∙◌, subst, arith, append_assoc, append-nil}
+use Rattle.std.proofs.Common.{
+  ◌≡◌,
+  ℕ,
+  ◌+◌,
+  List,
+  [],
+  ◌++◌,
+  length,
+  take,
+  drop,
+  fold,
+  get_or,
+  ◌∷◌,
+  ◌<◌,
+  Bor,
+  Option,
+  None,
+  Some,
+  Ok,
+  Err,
+  Result,
+  refl,
+  ap,
+  sym,
+  ◌∙◌,
+  subst,
+  arith,
+  append_assoc,
+  append-nil,
+}
 use Rattle.std.specs.Prelude.{⊤}
 use Rattle.std.specs.Result.{IsErr}
 use Rattle.std.specs.Io.KnownBytes.{Appends}
@@ -7,8 +36,7 @@ use Rattle.std.proofs.KnownBytes.{Appends-trans}
 use Rattle.std.proofs.lemmas.List.{take-append-drop, drop_more}
 use Rattle.nm_outside.proofs.Parts.{part_given}
 use Rattle.nm_outside.specs.declared.cabinet.Failed.{Failed}
-use Rattle.nm_outside.specs.Causes.{BelongsTo, Rose}
-use Rattle.nm_outside.specs.Files.{AppendsPart}
+use Rattle.nm_outside.specs.Causes.{Rose}
 use Rattle.report.specs.Printing.{Prints, joined}
 
 appends_none : (a : Option (List ℕ)) → Appends a a []

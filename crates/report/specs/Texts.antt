@@ -67,11 +67,30 @@ name_line start name = start ++ name ++ codes "\n"
 abbrev pub kind_line : List ℕ → List ℕ → List ℕ → ℕ → List ℕ
 kind_line start kind middle number = (start ++ kind ++ middle) ++ (decimal number ++ codes "\n")
 
--- the line of a refusal
+-- ---- the lines of refusals
+
+abbrev pub usage_line : List ℕ
+usage_line = codes "usage\n"
+
+abbrev pub absent_line : List ℕ → List ℕ
+absent_line name = name_line (codes "absent: ") name
+
+abbrev pub read_fault_line : List ℕ → List ℕ
+read_fault_line name = name_line (codes "read fault: ") name
+
+abbrev pub too_long_line : List ℕ → List ℕ
+too_long_line name = name_line (codes "too long: ") name
+
+abbrev pub program_refused_line : List ℕ → ℕ → List ℕ
+program_refused_line kind line = kind_line (codes "program refused: ") kind (codes " at line ") line
+
+abbrev pub schedule_refused_line : List ℕ → ℕ → List ℕ
+schedule_refused_line kind place = kind_line (codes "schedule refused: ") kind (codes " at ") place
+
 abbrev pub refusal_line : Refusal → List ℕ
-refusal_line Usage = codes "usage\n"
-refusal_line (Absent name) = name_line (codes "absent: ") name.now
-refusal_line (ReadFault name) = name_line (codes "read fault: ") name.now
-refusal_line (TooLong name) = name_line (codes "too long: ") name.now
-refusal_line (ProgramRefused kind line) = kind_line (codes "program refused: ") kind.now (codes " at line ") line
-refusal_line (ScheduleRefused kind place) = kind_line (codes "schedule refused: ") kind.now (codes " at ") place
+refusal_line Usage = usage_line
+refusal_line (Absent name) = absent_line name.now
+refusal_line (ReadFault name) = read_fault_line name.now
+refusal_line (TooLong name) = too_long_line name.now
+refusal_line (ProgramRefused kind line) = program_refused_line kind.now line
+refusal_line (ScheduleRefused kind place) = schedule_refused_line kind.now place

@@ -1,4 +1,4 @@
-use Rattle.std.proofs.Common.{◌++◌, take, drop, ◌+◌, sym, subst, refl}
+use Rattle.std.proofs.Common.{drop, ◌+◌, sym, subst, refl}
 use Rattle.report.specs.Printing.{Prints, joined}
 use Rattle.report.proofs.Pieces.{still_failed, failed_on, both, joined_at}
 use Rattle.report.proofs.put.put_pieces.Goals as goal

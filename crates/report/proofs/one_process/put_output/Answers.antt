@@ -1,8 +1,7 @@
 use Rattle.std.proofs.Common.{◌++◌, List, ℕ, subst}
 use Rattle.report.specs.Printing.{Prints}
-use Rattle.report.specs.Texts as texts
 use Rattle.report.proofs.Pieces.{both}
-use Rattle.report.proofs.blocks.put_output.Goals as goal
+use Rattle.report.proofs.one_process.put_output.Goals as goal
 
 pub returns : goal.returns
 returns g c =

@@ -1,7 +1,7 @@
 use Rattle.std.proofs.Common.{◌++◌, length}
 use Rattle.report.specs.Texts as texts
 use Rattle.report.proofs.Pieces.{still_failed, failed_on, both}
-use Rattle.report.proofs.blocks.block.Goals as goal
+use Rattle.report.proofs.one_process.block.Goals as goal
 
 pub returns-in_err-put_head : goal.returns-in_err-put_head
 returns-in_err-put_head g c =

@@ -1,7 +1,6 @@
-use Rattle.std.proofs.Common.{◌++◌, List, ℕ, codes, subst, sym, ◌∙◌}
+use Rattle.std.proofs.Common.{◌++◌, List, ℕ, codes, subst, ◌∙◌}
 use Rattle.report.specs.Printing.{Prints}
-use Rattle.report.specs.Texts as texts
-use Rattle.report.proofs.blocks.put_look.Goals as goal
+use Rattle.report.proofs.one_process.put_look.Goals as goal
 
 pub returns-in-Waiting : goal.returns-in-Waiting
 returns-in-Waiting g c =

@@ -1,0 +1,76 @@
+//! The blocks of a run.
+
+ghost use Rattle.std.specs.Prelude.{◌≡◌, ◌<◌, List, length};
+ghost use Rattle.c_tree.specs.declared.program.Program.{Program};
+ghost use Rattle.event_list.specs.declared.Event.{Event as Made};
+ghost use Rattle.event_list.specs.Events.{taken};
+ghost use Rattle.report.specs.Printing.{Prints};
+ghost use Rattle.report.specs.Runs as runs;
+ghost use Rattle.report.specs.Runs.{RunsProgram, block_of, all_blocks};
+
+use crate::one_process::block;
+use crate::summaries::summary;
+use c_process::CProc;
+use mailboxes::Mail;
+use nm_base::ProcNo;
+use nm_outside::{Failed, Sink};
+use processes::Proc;
+use world::World;
+
+// The block of a process of the world.
+fn put_block<'c, M: Mail, O: Sink>(
+    out: &mut O,
+    world: &World<CProc<'c>, M>,
+    p: ProcNo,
+) -> Result<(), Failed>
+    requires { p.no < length world.now.processes }
+    ensures { (program : Program) (E : List Made) → RunsProgram ⟦<CProc<'c> as Proc>⟧.stands_for ⟦<CProc<'c> as Proc>⟧.name_of ⟦<CProc<'c> as Proc>⟧.origin_of M.letters world.now program E
+        → Prints (O.given out.old) (O.given out.new) (O.faults out.old) (O.faults out.new) (block_of program (length world.now.processes) E p.no) result }
+{
+    let process = world.seat(p).process();
+    let look = process.look();
+    let line = process.line();
+    block(out, p.no, look, line, world.count(p), process.output())
+}
+
+// The blocks in order of the processes' numbers.
+fn put_blocks<'c, M: Mail, O: Sink>(out: &mut O, world: &World<CProc<'c>, M>) -> Result<(), Failed>
+    ensures { (program : Program) (E : List Made) → RunsProgram ⟦<CProc<'c> as Proc>⟧.stands_for ⟦<CProc<'c> as Proc>⟧.name_of ⟦<CProc<'c> as Proc>⟧.origin_of M.letters world.now program E
+        → Prints (O.given out.old) (O.given out.new) (O.faults out.old) (O.faults out.new) (all_blocks program (length world.now.processes) E) result }
+{
+    for p in 0..world.n() {
+        put_block(out, world, ProcNo { no: p })?;
+    }
+    Ok(())
+}
+
+// How many letters were accepted.
+fn accepted<'c, M: Mail>(world: &World<CProc<'c>, M>) -> u32
+    ensures { (program : Program) (E : List Made) → RunsProgram ⟦<CProc<'c> as Proc>⟧.stands_for ⟦<CProc<'c> as Proc>⟧.name_of ⟦<CProc<'c> as Proc>⟧.origin_of M.letters world.now program E
+        → result ≡ length (taken E) }
+{
+    let events = world.events();
+    let mut sum: u32 = 0;
+    for p in 0..world.n() {
+        sum = sum.saturating_add(world.receives(ProcNo { no: p }));
+    }
+    sum.min(events)
+}
+
+/// The blocks of all processes in order of their numbers, and the summary. A letter that was sent
+/// and not accepted waits.
+pub fn blocks<'c, M: Mail, O: Sink>(out: &mut O, world: &World<CProc<'c>, M>) -> Result<(), Failed>
+    ensures { (program : Program) (E : List Made) → RunsProgram ⟦<CProc<'c> as Proc>⟧.stands_for ⟦<CProc<'c> as Proc>⟧.name_of ⟦<CProc<'c> as Proc>⟧.origin_of M.letters world.now program E
+        → Prints (O.given out.old) (O.given out.new) (O.faults out.old) (O.faults out.new) (runs.blocks program (length world.now.processes) E) result }
+{
+    put_blocks(out, world)?;
+    let sent = world.sent();
+    let accepted = accepted(world);
+    summary(
+        out,
+        world.events(),
+        sent,
+        accepted,
+        sent.saturating_sub(accepted),
+    )
+}
