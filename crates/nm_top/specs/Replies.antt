@@ -1,11 +1,11 @@
 -- Replies: what a call answers, prints and leaves. Forms for saying which replies are allowed.
-use Rattle.std.specs.Prelude.{◌≡◌, ◌⊎◌, ℕ, List, Option, Some, None, MatchOption, ⊤}
+use Rattle.std.specs.Prelude.{◌≡◌, ◌⊎◌, ℕ, ◌≤◌, ◌<◌, length, List, Option, Some, None, MatchOption, ⊤}
 use Rattle.std.specs.FinMap.{get}
 use Rattle.std.specs.Io.KnownBytes.{Appends}
 use Rattle.nm_outside.specs.Files.{Files, AppendsPart}
+use Rattle.report.specs.Texts.{absent_line, read_fault_line, too_long_line}
 use Rattle.nm_top.specs.declared.status.Status.{Status}
-use Rattle.nm_top.specs.declared.status.Status.TheVariants.{Absent, ReadFault, WriteFault, WantOfMemory}
-use Rattle.nm_top.specs.Texts.{absent_line, read_fault_line}
+use Rattle.nm_top.specs.declared.status.Status.TheVariants.{Absent, ReadFault, WriteFault, TooLong, WantOfMemory}
 
 pub record Reply : Type 0 where
   pub status : Status
@@ -16,9 +16,15 @@ pub record Reply : Type 0 where
 abbrev pub Says : Files → Status → List ℕ → Reply → Type 0
 Says files status printed reply = reply ≡ record { status = status; printed = printed; files = files }
 
--- A file is needed: it is absent, or its bytes say what follows.
-abbrev pub Fetching : Files → List ℕ → (List ℕ → Reply → Type 0) → Reply → Type 0
-Fetching files name then reply = MatchOption (get files name) (Says files Absent (absent_line name) reply) (λ bytes. then bytes reply)
+-- The bytes of a file are within the limit and say what follows, or they pass it.
+abbrev pub Within : Files → List ℕ → ℕ → (List ℕ → Reply → Type 0) → List ℕ → Reply → Type 0
+Within files name limit then bytes reply =
+    ((length bytes ≤ limit) × then bytes reply) ⊎ ((limit < length bytes) × Says files TooLong (too_long_line name) reply)
+
+-- A file of at most so many bytes is needed: it is absent, or it passes the limit, or its bytes say what follows.
+abbrev pub Fetching : Files → List ℕ → ℕ → (List ℕ → Reply → Type 0) → Reply → Type 0
+Fetching files name limit then reply =
+    MatchOption (get files name) (Says files Absent (absent_line name) reply) (λ bytes. Within files name limit then bytes reply)
 
 -- A text is read: it reads as some value, which says what follows, or as none.
 abbrev pub Reading : {X : Type 0} → (X → Type 0) → (Reply → Type 0) → (X → Reply → Type 0) → Reply → Type 0
@@ -53,3 +59,7 @@ PrintsPart allowed fetches (Some held) before after = (text : List ℕ) × MayPr
 -- The line of a read fault was given, and nothing else.
 abbrev pub PrintsFault : (List ℕ → Type 0) → Option (List ℕ) → Option (List ℕ) → Type 0
 PrintsFault fetches before after = (name : List ℕ) × fetches name × Appends before after (read_fault_line name)
+
+-- The status is this one, or there was want of memory.
+abbrev pub IsOrLacksMemory : Status → Status → Type 0
+IsOrLacksMemory due status = (status ≡ due) ⊎ (status ≡ WantOfMemory)

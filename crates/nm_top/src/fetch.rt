@@ -1,32 +1,130 @@
-//! Fetching a file that a command needs.
+//! The files that a command needs, and what their texts stand for.
 
-ghost use Rattle.std.specs.Prelude.{◌≡◌, IfSome, IsErrOf};
+ghost use Rattle.std.specs.Prelude.{◌≡◌, ◌<◌, ◌≤◌, ◌⊎◌, List, ℕ, length, Err, IfSome, IfOk};
 ghost use Rattle.std.specs.FinMap.{get};
-ghost use Rattle.nm_outside.specs.Causes.{BelongsTo};
-ghost use Rattle.nm_top.specs.Stops.{Blames, IsFile, is_absent_work, is_failed_work};
+ghost use Rattle.std.specs.Option.{IsSomeAnd};
+ghost use Rattle.nm_outside.specs.Files.{Files};
+ghost use Rattle.schedules.specs.Texts.{text_turns};
+ghost use Rattle.schedules.specs.declared.reader.ScheduleFault.TheVariants as faults;
+ghost use Rattle.nm_top.specs.Programs.{Reads};
+ghost use Rattle.nm_top.specs.Schedules.{IsFirstBad, IsSchedule};
+ghost use Rattle.nm_top.specs.Unread.{IsUnread};
+ghost use Rattle.schedules.specs.Bounds.{AreFewTurns};
+ghost use Rattle.nm_top.specs.Needs.{Holds, ProgramText, ScheduleText};
+ghost use Rattle.nm_top.specs.Replies.{Fetching};
+ghost use Rattle.nm_top.specs.RunAnswers.{RefusesProgram, RefusesSchedule, ReadingProgram, ReadingSchedule};
+ghost use Rattle.nm_top.specs.Stops.{Counts, Gives, IsOfText, Nothing, Stops};
 
+use crate::program::{Unread, program_of};
 use crate::stop::Stop;
+use c_tree::Program;
 use nm_outside::{Cabinet, Fetched};
+use report::Refusal;
+use schedules::{Schedule, ScheduleFault, read_schedule};
 use std::alloc::Global;
 
-/// The first bytes of the file, up to one more than the limit.
-pub fn fetched<'a, C: Cabinet>(
+const PROGRAM_LIMIT: u32 = 262_144;
+
+const SCHEDULE_LIMIT: u32 = 4_194_304;
+
+// The bytes of a file of at most so many.
+fn fetched<'a, C: Cabinet>(
     alloc: Global,
     files: &mut C,
     name: &'a str,
     limit: u32,
 ) -> Result<Vec<u8>, Stop<'a>>
-    ensures bytes { IfSome (C.files files.old) (λ held. IsFile (get held name.now) limit name.now result) }
-    ensures usage { IsErrOf result Stop.Usage → ⊥ }
-    ensures absent { BelongsTo (is_absent_work result) (C.absents files.old) (C.absents files.new) }
-    ensures blames { Blames (λ n. n ≡ name.now) result }
-    ensures failed { BelongsTo (is_failed_work result) (C.read_faults files.old) (C.read_faults files.new) }
+    ensures gives { IfSome (C.files files.old) (λ held. Gives (λ v. IsSomeAnd (get held name.now) (λ bytes. v.items ≡ bytes)) (Fetching held name.now limit Nothing) held result) }
+    ensures limit { IfOk result (λ v. length v.items ≤ limit) }
+    ensures counts { Counts (λ n. n ≡ name.now) (C.absents files.old) (C.absents files.new) (C.read_faults files.old) (C.read_faults files.new) result }
     ensures files { C.files files.new ≡ C.files files.old }
 {
     match files.fetch(alloc, name, limit) {
-        Fetched::Bytes(bytes) => Ok(bytes),
-        Fetched::Absent => Err(Stop::Absent { name }),
-        Fetched::Failed => Err(Stop::ReadFault { name }),
+        Fetched::Bytes(bytes) => {
+            if bytes.len() > limit as usize {
+                return Err(Stop::Refused(Refusal::TooLong { name }));
+            }
+            Ok(bytes)
+        }
+        Fetched::Absent => Err(Stop::Refused(Refusal::Absent { name })),
+        Fetched::Failed => Err(Stop::Refused(Refusal::ReadFault { name })),
         Fetched::Memory => Err(Stop::Memory),
+    }
+}
+
+// What stops a command whose program wasn't read.
+fn unread<'a>(fault: Unread) -> Stop<'a>
+    ensures stops { (held : Files) (text : List ℕ) → IsUnread text fault → Stops (RefusesProgram held text) held result }
+    ensures text { IsOfText result }
+{
+    match fault {
+        Unread::Refused { kind, line } => Stop::Refused(Refusal::ProgramRefused { kind, line }),
+        Unread::Memory => Stop::Memory,
+    }
+}
+
+// What stops a command whose schedule has a bad word: the kind and the place of the first.
+fn bad_word<'a>(kind: &'static str, place: u32) -> Stop<'a>
+    ensures stops { (held : Files) (n : ℕ) (text : List ℕ) → IsFirstBad n text (record { kind = kind.now; place = place }) → Stops (RefusesSchedule held n text) held result }
+    ensures text { IsOfText result }
+{
+    Stop::Refused(Refusal::ScheduleRefused { kind, place })
+}
+
+// What stops a command whose schedule wasn't read.
+fn unscheduled<'a>(fault: ScheduleFault) -> Stop<'a>
+    ensures stops { (held : Files) (n : ℕ) (text : List ℕ) → (fault ≡ faults.Memory) ⊎ (text_turns n text ≡ Err fault) → Stops (RefusesSchedule held n text) held result }
+    ensures text { IsOfText result }
+{
+    match fault {
+        ScheduleFault::BadWord { place } => bad_word("BadWord", place),
+        ScheduleFault::NoProcess { place } => bad_word("NoProcess", place),
+        ScheduleFault::TooMany { place } => bad_word("TooMany", place),
+        ScheduleFault::Memory => Stop::Memory,
+    }
+}
+
+/// The program in a file.
+pub fn program_in<'a, C: Cabinet>(
+    alloc: Global,
+    files: &mut C,
+    name: &'a str,
+) -> Result<Program, Stop<'a>>
+    ensures gives { IfSome (C.files files.old) (λ held. Gives (λ program. Holds (ProgramText name.now) (λ text. Reads text program) held) (ReadingProgram held name.now Nothing) held result) }
+    ensures counts { Counts (λ n. n ≡ name.now) (C.absents files.old) (C.absents files.new) (C.read_faults files.old) (C.read_faults files.new) result }
+    ensures files { C.files files.new ≡ C.files files.old }
+{
+    let text = match fetched(alloc, files, name, PROGRAM_LIMIT) {
+        Ok(text) => text,
+        Err(stop) => return Err(stop),
+    };
+    match program_of(alloc, &text) {
+        Ok(program) => Ok(program),
+        Err(fault) => Err(unread(fault)),
+    }
+}
+
+/// The schedule for so many processes in a file.
+pub fn schedule_in<'a, C: Cabinet>(
+    alloc: Global,
+    files: &mut C,
+    name: &'a str,
+    processes: u8,
+) -> Result<Schedule, Stop<'a>>
+    requires some { 0 < processes }
+    requires few { processes ≤ 32 }
+    ensures gives { IfSome (C.files files.old) (λ held. Gives (λ turns. Holds (ScheduleText name.now processes) (λ text. IsSchedule processes text turns) held)
+        (ReadingSchedule held name.now processes Nothing) held result) }
+    ensures turns { IfOk result (AreFewTurns processes) }
+    ensures counts { Counts (λ n. n ≡ name.now) (C.absents files.old) (C.absents files.new) (C.read_faults files.old) (C.read_faults files.new) result }
+    ensures files { C.files files.new ≡ C.files files.old }
+{
+    let text = match fetched(alloc, files, name, SCHEDULE_LIMIT) {
+        Ok(text) => text,
+        Err(stop) => return Err(stop),
+    };
+    match read_schedule(alloc, &text, processes) {
+        Ok(schedule) => Ok(schedule),
+        Err(fault) => Err(unscheduled(fault)),
     }
 }

@@ -1,94 +1,118 @@
 //! The command `run`.
 
-ghost use Rattle.std.specs.Prelude.{◌≡◌, ◌⊎◌, IfSome, IfOk, IsErrOf};
-ghost use Rattle.std.specs.FinMap.{get};
-ghost use Rattle.std.specs.List.{AllByRecursion};
-ghost use Rattle.c_tree.specs.ThinText.{Fits};
-ghost use Rattle.nm_outside.specs.Causes.{BelongsTo};
-ghost use Rattle.nm_top.specs.Answers.{RunAnswer, IsProgram, IsSchedule};
-ghost use Rattle.nm_top.specs.Turns.{AreTurns};
-ghost use Rattle.nm_top.specs.Stops.{Blames, Works, Needed, is_absent_work, is_failed_work};
+ghost use Rattle.std.specs.Prelude.{◌≡◌, ◌<◌, ◌≤◌, ◌⊎◌, IfSome, IfOk};
+ghost use Rattle.c_tree.specs.declared.program.Program.{Program};
+ghost use Rattle.stack_code.specs.View.{code_of};
+ghost use Rattle.c_process.specs.Standing.{IsCodeOf};
+ghost use Rattle.report.specs.Runs.{blocks};
+ghost use Rattle.nm_top.specs.Commands.{Run};
+ghost use Rattle.nm_top.specs.Programs.{Reads};
+ghost use Rattle.nm_top.specs.Schedules.{IsSchedule};
+ghost use Rattle.schedules.specs.Bounds.{AreFewTurns};
+ghost use Rattle.nm_top.specs.Needs.{Holds, ProgramText, ScheduleText};
+ghost use Rattle.nm_top.specs.RunAnswers.{RunAnswer, run_of_program};
+ghost use Rattle.nm_top.specs.Stops.{Carries, Counts, Gives, Tries, outside};
 
-use crate::blocks::blocks_of;
-use crate::fetch::fetched;
-use crate::schedule::turns_of;
+use crate::fetch::{program_in, schedule_in};
+use crate::start::{compiled, world_after};
+use crate::status::Status;
 use crate::stop::Stop;
-use crate::thin::statements_of;
-use c_tree::thin::Statement;
-use nm_outside::Cabinet;
+use crate::tell::tell;
+use c_tree::Program;
+use nm_outside::{Cabinet, Sink};
+use report::blocks;
+use schedules::Schedule;
+use stack_code::Code;
 use std::alloc::Global;
 
-const PROGRAM_LIMIT: u32 = 262_144;
-
-const SCHEDULE_LIMIT: u32 = 4_194_304;
-
-// The program in a file.
-fn program_in<'a, C: Cabinet>(
+// Runs the code as so many processes, and prints their blocks and the summary.
+fn run_code<O: Sink>(
     alloc: Global,
-    files: &mut C,
-    name: &'a str,
+    code: &Code,
     processes: u8,
-) -> Result<Vec<Statement>, Stop<'a>>
-    ensures usage { IsErrOf result Stop.Usage → ⊥ }
-    ensures statements { IfSome (C.files files.old) (λ held. Needed (get held name.now) (IsProgram processes) name.now result) }
-    ensures fits { IfOk result (λ v. AllByRecursion (Fits processes) v.items) }
-    ensures absent { BelongsTo (is_absent_work result) (C.absents files.old) (C.absents files.new) }
-    ensures blames { Blames (λ n. n ≡ name.now) result }
-    ensures failed { BelongsTo (is_failed_work result) (C.read_faults files.old) (C.read_faults files.new) }
-    ensures files { C.files files.new ≡ C.files files.old }
+    schedule: &Schedule,
+    out: &mut O,
+) -> Status
+    requires some { 0 < processes }
+    requires few { processes ≤ 32 }
+    requires turns { AreFewTurns processes schedule.now }
+    requires code { (p : Program) × IsCodeOf p (code_of code.now) }
+    ensures { (p : Program) → IsCodeOf p (code_of code.now)
+        → Tries (blocks p processes (run_of_program p processes schedule.now)) (O.given out.old) (O.given out.new) (O.faults out.old) (O.faults out.new) result }
 {
-    match fetched(alloc, files, name, PROGRAM_LIMIT) {
-        Ok(text) => statements_of(alloc, processes, &text),
-        Err(stop) => Err(stop),
+    let Ok(world) = world_after(alloc, code, processes, schedule) else {
+        return Status::WantOfMemory;
+    };
+    match blocks(out, &world) {
+        Ok(()) => Status::Done,
+        Err(_) => Status::WriteFault,
     }
 }
 
-// The schedule in a file.
-fn schedule_in<'a, C: Cabinet>(
+// Compiles the program and runs it.
+fn run_program<O: Sink>(
     alloc: Global,
-    files: &mut C,
-    name: &'a str,
+    program: &Program,
     processes: u8,
-) -> Result<Vec<u8>, Stop<'a>>
-    ensures usage { IsErrOf result Stop.Usage → ⊥ }
-    ensures below { IfOk result (λ v. AreTurns processes v.items) }
-    ensures turns { IfSome (C.files files.old) (λ held. Needed (get held name.now) (IsSchedule processes) name.now result) }
-    ensures absent { BelongsTo (is_absent_work result) (C.absents files.old) (C.absents files.new) }
-    ensures blames { Blames (λ n. n ≡ name.now) result }
-    ensures failed { BelongsTo (is_failed_work result) (C.read_faults files.old) (C.read_faults files.new) }
-    ensures files { C.files files.new ≡ C.files files.old }
+    schedule: &Schedule,
+    out: &mut O,
+) -> Status
+    requires some { 0 < processes }
+    requires few { processes ≤ 32 }
+    requires turns { AreFewTurns processes schedule.now }
+    ensures { Tries (blocks program.now processes (run_of_program program.now processes schedule.now)) (O.given out.old) (O.given out.new) (O.faults out.old) (O.faults out.new) result }
 {
-    match fetched(alloc, files, name, SCHEDULE_LIMIT) {
-        Ok(text) => turns_of(alloc, processes, &text),
-        Err(stop) => Err(stop),
-    }
+    let Ok(code) = compiled(alloc, program) else {
+        return Status::WantOfMemory;
+    };
+    run_code(alloc, &code, processes, schedule, out)
 }
 
-/// Runs the program under the schedule, and gives the blocks and the summary.
-pub fn run<'a, C: Cabinet>(
+// What a run needs: a program, and a schedule for so many processes.
+fn needed<'a, C: Cabinet>(
     alloc: Global,
     program: &'a str,
     processes: u8,
     schedule: &'a str,
     files: &mut C,
-) -> Result<Vec<u8>, Stop<'a>>
-    ensures answer { IfSome (C.files files.old) (λ held. Works (RunAnswer program.now processes schedule.now held) held result) }
-    ensures blames { Blames (λ n. (n ≡ program.now) ⊎ (n ≡ schedule.now)) result }
-    ensures usage { IsErrOf result Stop.Usage → ⊥ }
-    ensures absent { BelongsTo (is_absent_work result) (C.absents files.old) (C.absents files.new) }
-    ensures failed { BelongsTo (is_failed_work result) (C.read_faults files.old) (C.read_faults files.new) }
+) -> Result<(Program, Schedule), Stop<'a>>
+    requires some { 0 < processes }
+    requires few { processes ≤ 32 }
+    ensures gives { IfSome (C.files files.old) (λ held. Gives
+        (λ x. Holds (ProgramText program.now) (λ text. Reads text x.0) held × Holds (ScheduleText schedule.now processes) (λ text. IsSchedule processes text x.1) held)
+        (RunAnswer program.now processes schedule.now held) held result) }
+    ensures turns { IfOk result (λ x. AreFewTurns processes x.1) }
+    ensures counts { Counts (λ n. (n ≡ program.now) ⊎ (n ≡ schedule.now)) (C.absents files.old) (C.absents files.new) (C.read_faults files.old) (C.read_faults files.new) result }
     ensures files { C.files files.new ≡ C.files files.old }
 {
-    let statements = match program_in(alloc, files, program, processes) {
-        Ok(statements) => statements,
+    let program = match program_in(alloc, files, program) {
+        Ok(program) => program,
         Err(stop) => return Err(stop),
     };
-    let turns = match schedule_in(alloc, files, schedule, processes) {
-        Ok(turns) => turns,
-        Err(stop) => return Err(stop),
-    };
-    match blocks_of(alloc, processes, &statements, &turns) {
-        Ok(text) => Ok(text),
-        Err(_) => Err(Stop::Memory),
+    match schedule_in(alloc, files, schedule, processes) {
+        Ok(schedule) => Ok((program, schedule)),
+        Err(stop) => Err(stop),
+    }
+}
+
+/// Runs the program in a file as so many processes, under the schedule in another, and prints the
+/// processes' blocks and the summary.
+pub fn run<C: Cabinet, O: Sink>(
+    alloc: Global,
+    program: &str,
+    processes: u8,
+    schedule: &str,
+    files: &mut C,
+    out: &mut O,
+) -> Status
+    requires some { 0 < processes }
+    requires few { processes ≤ 32 }
+    ensures { Carries (Run program.now processes schedule.now)
+        (outside (C.files files.old) (C.absents files.old) (C.read_faults files.old) (O.given out.old) (O.faults out.old))
+        (outside (C.files files.new) (C.absents files.new) (C.read_faults files.new) (O.given out.new) (O.faults out.new)) result }
+{
+    match needed(alloc, program, processes, schedule, files) {
+        Ok((program, schedule)) => run_program(alloc, &program, processes, &schedule, out),
+        Err(stop) => tell(out, &stop),
     }
 }

@@ -1,12 +1,15 @@
 //! The top call.
 
-ghost use Rattle.std.specs.Prelude.{◌≡◌, ◌≢◌, ◌⊎◌, ◌↔◌, IfSome, IsErrOf, None, []};
+ghost use Rattle.std.specs.Prelude.{◌≡◌, ◌≢◌, ◌⊎◌, IfSome, None, []};
 ghost use Rattle.std.specs.Io.KnownBytes.{Appends};
-ghost use Rattle.nm_outside.specs.Causes.{BelongsTo, Rose};
+ghost use Rattle.nm_outside.specs.Causes.{Rose};
 ghost use Rattle.nm_top.specs.Commands.{command_of, texts};
-ghost use Rattle.nm_top.specs.Replies.{Answers, PrintsFault, PrintsPart};
-ghost use Rattle.nm_top.specs.Answers.{Answer, Fetches, IsLacking, IsReadyFor, IsUnread, OfCommand};
-ghost use Rattle.nm_top.specs.Stops.{Blames, Works, is_absent_work, is_failed_work};
+ghost use Rattle.nm_top.specs.Named.{IsInRange, named};
+ghost use Rattle.nm_top.specs.Replies.{Answers, IsOrLacksMemory, PrintsFault, PrintsPart};
+ghost use Rattle.nm_top.specs.Needs.{IsMissing, IsPastLimit, IsRefused};
+ghost use Rattle.nm_top.specs.Answers.{Answer, Due, Fetches, Ready};
+ghost use Rattle.nm_top.specs.Stops.{Carries, outside};
+ghost use Rattle.nm_top.specs.Does.{Does};
 
 use crate::run::run;
 use crate::status::Status;
@@ -14,30 +17,39 @@ use crate::stop::Stop;
 use crate::tell::tell;
 use crate::words::{Command, command_in};
 use nm_outside::{Cabinet, Sink};
+use report::Refusal;
 use std::alloc::Global;
 
-// Does the work of the command that the words name, up to its text.
-fn work<'a, C: Cabinet>(
+// Carries out a command.
+fn carry_out<C: Cabinet, O: Sink>(
     alloc: Global,
-    words: &'a [String],
+    command: Command<'_>,
     files: &mut C,
-) -> Result<Vec<u8>, Stop<'a>>
-    ensures answer { IfSome (C.files files.old) (λ held. Works (Answer (texts words.now) held) held result) }
-    ensures blames { Blames (Fetches (texts words.now)) result }
-    ensures usage { IsErrOf result Stop.Usage ↔ (command_of (texts words.now) ≡ None) }
-    ensures absent { BelongsTo (is_absent_work result) (C.absents files.old) (C.absents files.new) }
-    ensures failed { BelongsTo (is_failed_work result) (C.read_faults files.old) (C.read_faults files.new) }
-    ensures files { C.files files.new ≡ C.files files.old }
+    out: &mut O,
+) -> Status
+    requires { IsInRange command }
+    ensures { Carries (named command.entry)
+        (outside (C.files files.old) (C.absents files.old) (C.read_faults files.old) (O.given out.old) (O.faults out.old))
+        (outside (C.files files.new) (C.absents files.new) (C.read_faults files.new) (O.given out.new) (O.faults out.new)) result }
+{
+    match command {
+        Command::Run {
+            program,
+            processes,
+            schedule,
+        } => run(alloc, program, processes, schedule, files, out),
+    }
+}
+
+// Carries out the command that the words name.
+fn work<C: Cabinet, O: Sink>(alloc: Global, words: &[String], files: &mut C, out: &mut O) -> Status
+    ensures { Does (texts words.now)
+        (outside (C.files files.old) (C.absents files.old) (C.read_faults files.old) (O.given out.old) (O.faults out.old))
+        (outside (C.files files.new) (C.absents files.new) (C.read_faults files.new) (O.given out.new) (O.faults out.new)) result }
 {
     match command_in(words) {
-        None => Err(Stop::Usage),
-        Some(
-            Command::Run {
-                program,
-                processes,
-                schedule,
-            },
-        ) => run(alloc, program, processes, schedule, files),
+        Some(command) => carry_out(alloc, command, files, out),
+        None => tell(out, &Stop::Refused(Refusal::Usage)),
     }
 }
 
@@ -60,21 +72,29 @@ pub fn racetrace<C: Cabinet, O: Sink>(
     // Absent comes only where a file wasn't found: exactly where the files that are told lack the one
     // that is due, and no fault came.
     ensures absent { result ≡ Status.Absent → Rose (C.absents files.old) (C.absents files.new) }
-    ensures absent_due { result ≡ Status.Absent → IfSome (C.files files.old) (OfCommand IsLacking (texts words.now)) }
-    ensures lacking { IfSome (C.files files.old) (λ held. OfCommand IsLacking (texts words.now) held
-        → ¬ Rose (C.read_faults files.old) (C.read_faults files.new) → ¬ Rose (O.faults out.old) (O.faults out.new)
-        → (result ≡ Status.Absent) ⊎ (result ≡ Status.WantOfMemory)) }
+    ensures absent_due { result ≡ Status.Absent → IfSome (C.files files.old) (Due IsMissing (texts words.now)) }
+    ensures lacking { IfSome (C.files files.old) (λ held. Due IsMissing (texts words.now) held
+        → ¬ Rose (C.read_faults files.old) (C.read_faults files.new) → ¬ Rose (O.faults out.old) (O.faults out.new) → IsOrLacksMemory Status.Absent result) }
 
     // ReadFault comes exactly where a read failed, and prints its line alone.
     ensures read_fault { result ≡ Status.ReadFault → Rose (C.read_faults files.old) (C.read_faults files.new) }
     ensures no_read_fault { result ≢ Status.ReadFault → result ≢ Status.WriteFault → C.read_faults files.new ≡ C.read_faults files.old }
     ensures fault_line { result ≡ Status.ReadFault → PrintsFault (Fetches (texts words.now)) (O.given out.old) (O.given out.new) }
 
-    // NotYet comes exactly where a text that is due is none of a thin program or schedule, and no fault came.
-    ensures not_yet { result ≡ Status.NotYet → IfSome (C.files files.old) (OfCommand IsUnread (texts words.now)) }
-    ensures unread { IfSome (C.files files.old) (λ held. OfCommand IsUnread (texts words.now) held
-        → ¬ Rose (C.read_faults files.old) (C.read_faults files.new) → ¬ Rose (O.faults out.old) (O.faults out.new)
-        → (result ≡ Status.NotYet) ⊎ (result ≡ Status.WantOfMemory)) }
+    // TooLong comes exactly where the file that is due passes its limit, and no fault came.
+    ensures too_long { result ≡ Status.TooLong → IfSome (C.files files.old) (Due IsPastLimit (texts words.now)) }
+    ensures past_limit { IfSome (C.files files.old) (λ held. Due IsPastLimit (texts words.now) held
+        → ¬ Rose (C.read_faults files.old) (C.read_faults files.new) → ¬ Rose (O.faults out.old) (O.faults out.new) → IsOrLacksMemory Status.TooLong result) }
+
+    // ProgramRefused comes exactly where the text that is due is to be a program's and has none, and no fault came.
+    ensures program_refused { result ≡ Status.ProgramRefused → IfSome (C.files files.old) (Due (IsRefused Status.ProgramRefused) (texts words.now)) }
+    ensures no_program { IfSome (C.files files.old) (λ held. Due (IsRefused Status.ProgramRefused) (texts words.now) held
+        → ¬ Rose (C.read_faults files.old) (C.read_faults files.new) → ¬ Rose (O.faults out.old) (O.faults out.new) → IsOrLacksMemory Status.ProgramRefused result) }
+
+    // ScheduleRefused comes exactly where the text that is due is to be a schedule's and names no turns, and no fault came.
+    ensures schedule_refused { result ≡ Status.ScheduleRefused → IfSome (C.files files.old) (Due (IsRefused Status.ScheduleRefused) (texts words.now)) }
+    ensures no_schedule { IfSome (C.files files.old) (λ held. Due (IsRefused Status.ScheduleRefused) (texts words.now) held
+        → ¬ Rose (C.read_faults files.old) (C.read_faults files.new) → ¬ Rose (O.faults out.old) (O.faults out.new) → IsOrLacksMemory Status.ScheduleRefused result) }
 
     // WriteFault comes exactly where a put failed, and leaves a part of the text from its front.
     ensures write_fault { result ≡ Status.WriteFault → Rose (O.faults out.old) (O.faults out.new) }
@@ -86,13 +106,11 @@ pub fn racetrace<C: Cabinet, O: Sink>(
     ensures silent { result ≡ Status.WantOfMemory → Appends (O.given out.old) (O.given out.new) [] }
 
     // A command that has all that it needs is done, where no fault came and memory was there.
-    ensures complete { IfSome (C.files files.old) (λ held. OfCommand IsReadyFor (texts words.now) held
-        → ¬ Rose (C.read_faults files.old) (C.read_faults files.new) → ¬ Rose (O.faults out.old) (O.faults out.new)
-        → (result ≡ Status.Done) ⊎ (result ≡ Status.WantOfMemory)) }
+    ensures complete { IfSome (C.files files.old) (λ held. Ready (texts words.now) held
+        → ¬ Rose (C.read_faults files.old) (C.read_faults files.new) → ¬ Rose (O.faults out.old) (O.faults out.new) → IsOrLacksMemory Status.Done result) }
 
     // The files stay as they are.
     ensures files { C.files files.new ≡ C.files files.old }
 {
-    let work = work(alloc, words, files);
-    tell(out, &work)
+    work(alloc, words, files, out)
 }

@@ -1,0 +1,81 @@
+-- The run of a schedule, turn by turn.
+use Rattle.std.proofs.Common.{◌≡◌, ℕ, zero, suc, ◌+◌, ◌≤◌, List, [], ◌∷◌, ◌++◌, length, take, None, Some, refl, sym, ap, ◌∙◌, subst, arith, length-append, add-one}
+use Rattle.std.specs.Prelude.{map, fold, slice_get}
+use Rattle.std.proofs.Math.Seq.{take-suc}
+use Rattle.std.proofs.lemmas.List.Sums.{fold_push}
+use Rattle.std.proofs.lemmas.Option.{slice_get_within, get_or_from_slice_get}
+use Rattle.nm_base.specs.Scripts.{Script}
+use Rattle.schedules.specs.declared.schedule.Turn.{Turn}
+use Rattle.event_list.specs.declared.Event.{Event}
+use Rattle.event_list.specs.Turns as turns
+use Rattle.event_list.specs.Turns.{Turned, Stays, Went, go, after, run_of}
+use Rattle.event_list.specs.Rules.{rule_of}
+use Rattle.event_list.proofs.RuleFacts.{turn_rule}
+use Rattle.nm_base.specs.declared.letter.ProcNo.{ProcNo}
+use Rattle.nm_base.specs.declared.letter.Letter.{Letter}
+use Rattle.nm_base.specs.Message.{Message}
+use Rattle.world.specs.declared.world.Turned as outcomes
+use Rattle.world.specs.Worlds.{Parts, IsWorldOf}
+use Rattle.world.specs.Outcomes.{HasTurned}
+use Rattle.nm_top.specs.Turns.{seen_turn}
+
+after_length : (E : List Event) (t : Turned) → length (after E t) ≤ length E + 1
+after_length E (Stays why) = omega arith
+after_length E (Went e) = omega (arith, length-append E (e ∷ []))
+
+from_length : (s : ℕ → Script) (E : List Event) (ts : List turns.Turn) → length (fold (λ E t. after E (go s 0 None E t)) E ts) ≤ length E + length ts
+from_length s E [] = omega arith
+from_length s E (t ∷ ts) = omega (arith, from_length s (after E (go s 0 None E t)) ts, after_length E (go s 0 None E t))
+
+map_length : {X Y : Type 0} (f : X → Y) (xs : List X) → length (map f xs) ≡ length xs
+map_length f [] = refl
+map_length f (x ∷ xs) = ap suc (map_length f xs)
+
+map_append : {X Y : Type 0} (f : X → Y) (xs ys : List X) → map f (xs ++ ys) ≡ map f xs ++ map f ys
+map_append f [] ys = refl
+map_append f (x ∷ xs) ys = ap (λ zs. f x ∷ zs) (map_append f xs ys)
+
+take_length : {X : Type 0} (i : ℕ) (xs : List X) → length (take i xs) ≤ i
+take_length zero xs = omega arith
+take_length (suc i) [] = omega arith
+take_length (suc i) (x ∷ xs) = omega (arith, take_length i xs)
+
+-- a run has at most one event a turn
+pub run_length : (s : ℕ → Script) (ts : List Turn) (i : ℕ) → length (run_of s 0 (map seen_turn (take i ts))) ≤ i
+run_length s ts i = omega (arith, from_length s [] (map seen_turn (take i ts)), map_length seen_turn (take i ts), take_length i ts)
+
+-- one turn more
+pub run_more : (s : ℕ → Script) (ts : List Turn) (i : ℕ) (t : Turn) → slice_get ts i ≡ Some t
+    → run_of s 0 (map seen_turn (take (i + 1) ts)) ≡ after (run_of s 0 (map seen_turn (take i ts))) (go s 0 None (run_of s 0 (map seen_turn (take i ts))) (seen_turn t))
+run_more s ts i t at =
+    let one : take (i + 1) ts ≡ take i ts ++ t ∷ [] =
+    ap (λ k. take k ts) (add-one i) ∙ take-suc ts i t (slice_get_within ts i t at) ∙ ap (λ u. take i ts ++ u ∷ []) (get_or_from_slice_get ts i t t at) in
+    ap (λ us. run_of s 0 (map seen_turn us)) one ∙ ap (run_of s 0) (map_append seen_turn (take i ts) (t ∷ []))
+    ∙ fold_push (λ E u. after E (go s 0 None E u)) [] (map seen_turn (take i ts)) (seen_turn t)
+
+-- What a world keeps while the turns of a schedule are made: it stands for the run of the first i turns.
+pub record AfterTurns {P M O : Type 0} (stands_for : P → Script → List Message → ℕ → Type 0) (name_of : P → ProcNo) (letters_of : M → List Letter) (origin_of : P
+    → O) (start now : Parts P M) (ts : List Turn) (i : ℕ) : Type 0 where
+  pub run : (s : ℕ → Script) → IsWorldOf stands_for name_of letters_of start s [] → IsWorldOf stands_for name_of letters_of now s (run_of s 0 (map seen_turn (take i ts)))
+  pub size : length now.processes ≡ length start.processes
+  pub origins : map origin_of now.processes ≡ map origin_of start.processes
+
+module _ {P M O : Type 0} (stands_for : P → Script → List Message → ℕ → Type 0) (name_of : P → ProcNo) (letters_of : M → List Letter) (origin_of : P → O) (start : Parts P M) (ts : List Turn) where
+  -- fewer events happened than turns were made
+  pub few_events : (now : Parts P M) (i : ℕ) → (s : ℕ → Script) × IsWorldOf stands_for name_of letters_of start s [] → AfterTurns stands_for name_of letters_of origin_of start now ts i
+      → now.events ≤ i
+  few_events now i b a = omega (arith, (a.run b.0 b.1).events, run_length b.0 ts i)
+
+  -- one turn more
+  pub next_turn : (now new : Parts P M) (i : ℕ) (t : Turn) (what : outcomes.Turned) → AfterTurns stands_for name_of letters_of origin_of start now ts i → slice_get ts i ≡ Some t
+      → ((s : ℕ → Script) (E : List Event) → IsWorldOf stands_for name_of letters_of now s E → HasTurned stands_for name_of letters_of (rule_of None) new s E (seen_turn t) what)
+      → length new.processes ≡ length now.processes → map origin_of new.processes ≡ map origin_of now.processes
+      → AfterTurns stands_for name_of letters_of origin_of start new ts (i + 1)
+  next_turn now new i t what a at turned size origins = record {
+    run = λ s h.
+        let E = run_of s 0 (map seen_turn (take i ts)) in
+        let k = turned s E (a.run s h) in
+        subst (λ F. IsWorldOf stands_for name_of letters_of new s F) (sym (run_more s ts i t at ∙ ap (after E) (turn_rule s 0 None E (seen_turn t) ∙ k.is))) k.stands;
+    size = size ∙ a.size;
+    origins = origins ∙ a.origins;
+  }

@@ -1,0 +1,67 @@
+//! The world of a program.
+
+ghost use Rattle.std.specs.Prelude.{◌≡◌, ◌<◌, ◌≤◌, length, IfOk};
+ghost use Rattle.c_tree.specs.declared.program.Program.{Program};
+ghost use Rattle.stack_code.specs.View.{code_of};
+ghost use Rattle.c_process.specs.Standing.{IsCodeOf};
+ghost use Rattle.report.specs.Runs.{RunsProgram};
+ghost use Rattle.schedules.specs.Bounds.{AreFewTurns};
+ghost use Rattle.nm_top.specs.RunAnswers.{run_of_program};
+ghost use Rattle.nm_top.specs.Begun.{AreBegun};
+
+use crate::turns::make_turns;
+use c_compile::compile;
+use c_process::CProc;
+use c_tree::Program;
+use mailboxes::{ListMail, Mail};
+use nm_base::{ProcNo, WantOfMemory};
+use processes::{Proc, Seat};
+use schedules::Schedule;
+use stack_code::Code;
+use std::alloc::Global;
+use world::World;
+
+/// The code of a program.
+pub fn compiled(alloc: Global, program: &Program) -> Result<Code, WantOfMemory>
+    ensures { IfOk result (λ code. IsCodeOf program.now (code_of code)) }
+{
+    let code = compile(alloc, program)?;
+    Ok(code)
+}
+
+// The processes of a program, each before its first event.
+fn seats_of<'c>(alloc: Global, code: &'c Code, n: u8) -> Result<Vec<Seat<CProc<'c>>>, WantOfMemory>
+    requires { n ≤ 32 }
+    ensures { IfOk result (λ seats. AreBegun ⟦<CProc<'c> as Proc>⟧.stands_for ⟦<CProc<'c> as Proc>⟧.name_of ⟦<CProc<'c> as Proc>⟧.origin_of (code_of code.now) n n seats.items) }
+{
+    let mut seats = Vec::new(alloc);
+    for me in 0..n {
+        let process = CProc::new(alloc, code, ProcNo { no: me }, n)?;
+        match seats.push(Seat::begin(process)) {
+            Ok(()) => {}
+            Err(_) => return Err(WantOfMemory),
+        }
+    }
+    Ok(seats)
+}
+
+/// The world after the turns of a schedule, of as many processes that run this code.
+pub fn world_after<'c>(
+    alloc: Global,
+    code: &'c Code,
+    n: u8,
+    schedule: &Schedule,
+) -> Result<World<CProc<'c>, ListMail>, WantOfMemory>
+    requires some { 0 < n }
+    requires few { n ≤ 32 }
+    requires turns { AreFewTurns n schedule.now }
+    requires code { (p : Program) × IsCodeOf p (code_of code.now) }
+    ensures runs { IfOk result (λ w. (p : Program) → IsCodeOf p (code_of code.now)
+        → RunsProgram ⟦<CProc<'c> as Proc>⟧.stands_for ⟦<CProc<'c> as Proc>⟧.name_of ⟦<CProc<'c> as Proc>⟧.origin_of ⟦<ListMail as Mail>⟧.letters w p (run_of_program p n schedule.now)) }
+    ensures size { IfOk result (λ w. length w.processes ≡ n) }
+{
+    let seats = seats_of(alloc, code, n)?;
+    let mut world = World::new(alloc, seats)?;
+    make_turns(alloc, &mut world, schedule)?;
+    Ok(world)
+}

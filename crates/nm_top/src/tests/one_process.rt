@@ -1,0 +1,181 @@
+//! One process of a program, stepped without a world.
+
+ghost use Rattle.std.specs.Prelude.{IfOk};
+ghost use Rattle.c_tree.specs.declared.program.Program.{Program};
+ghost use Rattle.stack_code.specs.View.{code_of};
+ghost use Rattle.c_process.specs.Standing.{IsCodeOf};
+
+use crate::program::program_of;
+use crate::start::compiled;
+use c_process::CProc;
+use nm_base::{FaultCause, Kind, ProcNo, WantOfMemory};
+use processes::{Look, Proc, Seat, Stepped};
+use stack_code::Code;
+use std::alloc::Global;
+use std::process::Abort;
+use std::test::Fail;
+
+/// What is seen of a process: its look, the number of its events, its line and how many bytes it printed.
+type Shown = (Look, u32, u32, usize);
+
+const FOR_EVER: &str = "int main(void) { for (;;) {} }";
+
+/// The code of a program text.
+pub(super) fn code_of(alloc: Global, text: &str) -> Result<Code, Fail>
+    ensures { IfOk result (λ code. (p : Program) × IsCodeOf p (code_of code)) }
+{
+    let text = text.as_bytes();
+    if text.len() > 262_144 {
+        return Err("too long")?;
+    }
+    let Ok(program) = program_of(alloc, text) else {
+        return Err("no program")?;
+    };
+    let code = compiled(alloc, &program)?;
+    Ok(code)
+}
+
+/// The only process of a program, before its first event.
+fn begun<'c>(alloc: Global, code: &'c Code) -> Result<Seat<CProc<'c>>, WantOfMemory> {
+    Ok(Seat::begin(CProc::new(alloc, code, ProcNo { no: 0 }, 1)?))
+}
+
+/// Makes the next event where the process is able, and tells its kind.
+fn next<'c>(
+    alloc: Global,
+    seat: Seat<CProc<'c>>,
+) -> Result<(Seat<CProc<'c>>, Option<Kind>), WantOfMemory> {
+    if seat.process().count() >= 1_000_000 {
+        return Ok((seat, None));
+    }
+    match seat {
+        Seat::Able(able) => match able.step(alloc) {
+            Stepped::Moved { seat, kind, .. } => Ok((seat, Some(kind))),
+            Stepped::NoMemory(able) => {
+                drop(able);
+                Err(WantOfMemory)
+            }
+        },
+        Seat::Waiting(waiting) => Ok((Seat::Waiting(waiting), None)),
+        Seat::Over(over) => Ok((Seat::Over(over), None)),
+    }
+}
+
+fn stepped<'c>(
+    alloc: Global,
+    mut seat: Seat<CProc<'c>>,
+    turns: u32,
+) -> Result<Seat<CProc<'c>>, WantOfMemory> {
+    for _ in 0..turns {
+        let (moved, _) = next(alloc, seat)?;
+        seat = moved;
+    }
+    Ok(seat)
+}
+
+fn shown_by(seat: &Seat<CProc<'_>>) -> Shown {
+    let process = seat.process();
+    (
+        process.look(),
+        process.count(),
+        process.line(),
+        process.output().len(),
+    )
+}
+
+/// What is seen of the program's only process after so many steps.
+fn after(alloc: Global, text: &str, turns: u32) -> Result<Shown, Fail> {
+    let code = code_of(alloc, text)?;
+    let seat = begun(alloc, &code)?;
+    let seat = stepped(alloc, seat, turns)?;
+    Ok(shown_by(&seat))
+}
+
+const fn faulted(cause: FaultCause) -> Look {
+    Look::Faulted { cause }
+}
+
+const fn ended(value: i32) -> Look {
+    Look::Ended { value }
+}
+
+/// A variable is set, and an expression of it is returned: four events, the last one on line 5.
+#[test]
+fn operators_give_values_or_faults(rt: HostRuntime) -> Result<(), Fail> {
+    let table = [
+        ("2147483647", "x + 1", faulted(FaultCause::Overflow)),
+        ("-2147483647 - 1", "x / -1", faulted(FaultCause::Overflow)),
+        ("31", "1 << x", ended(-2147483648)),
+        ("32", "1 << x", faulted(FaultCause::Shift)),
+        ("0", "5 % x", faulted(FaultCause::DivideByZero)),
+        ("-7", "x / 2", ended(-3)),
+        ("-7", "x % 2", ended(-1)),
+        ("-7", "x >> 1", ended(-4)),
+        ("4294967295u + 1u", "x", ended(0)),
+        ("0", "-1 < 0u", ended(0)),
+        ("0", "0x80000000 > 0", ended(1)),
+        ("0", "receive(0u)", faulted(FaultCause::EmptySet)),
+        ("0", "word(0)", faulted(FaultCause::NoLetter)),
+        ("0", "send(1, 0, 5)", faulted(FaultCause::Address)),
+    ];
+    let alloc = rt.alloc();
+    for (set, returned, look) in table {
+        let text = format!(in alloc;
+            "int main(void)\n{{\nint x;\nx = {set};\nreturn {returned};\n}}\n"
+        )?;
+        assert_eq!(&rt; after(alloc, &text, 9)?, (look, 4, 5, 0), "{returned}");
+    }
+    Ok(())
+}
+
+#[test]
+fn limits_are_faults(rt: HostRuntime) -> Result<(), Fail> {
+    let table = [
+        (
+            "int f(void) { return f(); } int main(void) { return f(); }",
+            600,
+            (faulted(FaultCause::DepthFull), 513, 1, 0),
+        ),
+        (
+            "int a[65536]; int main(void) { int x; return 0; }",
+            1,
+            (faulted(FaultCause::DataFull), 1, 1, 0),
+        ),
+        (
+            "int a[3]; int main(void) { return a[3]; }",
+            3,
+            (faulted(FaultCause::Index), 3, 1, 0),
+        ),
+        (
+            "int main(void) { for (;;) printf(\"0123456789abcdef\"); }",
+            200_000,
+            (faulted(FaultCause::OutputFull), 196_612, 1, 1_048_576),
+        ),
+        (FOR_EVER, 1000, (Look::Able, 1000, 1, 0)),
+    ];
+    for (text, turns, wanted) in table {
+        assert_eq!(&rt; after(rt.alloc(), text, turns)?, wanted, "{text}");
+    }
+    Ok(())
+}
+
+/// A copy that was made after three events makes the same events as the original.
+#[test]
+fn copy_goes_on_alike(rt: HostRuntime) -> Result<(), Fail> {
+    let alloc = rt.alloc();
+    let code = code_of(alloc, FOR_EVER)?;
+    let seat = begun(alloc, &code)?;
+    let mut seat = stepped(alloc, seat, 3)?;
+    let mut copy = Seat::begin(seat.process().copy(alloc)?);
+    assert_eq!(&rt; shown_by(&copy), shown_by(&seat));
+    for _ in 0..997 {
+        let (moved, kind) = next(alloc, seat)?;
+        let (copied, same) = next(alloc, copy)?;
+        assert_eq!(&rt; kind, Some(Kind::Line { line: 1 }));
+        assert_eq!(&rt; same, kind);
+        seat = moved;
+        copy = copied;
+    }
+    assert_eq!(&rt; shown_by(&copy), (Look::Able, 1000, 1, 0));
+    Ok(())
+}
