@@ -15,9 +15,6 @@ use Rattle.proc_machine.specs.declared.pause.Pause.{Pause}
 use Rattle.proc_machine.specs.declared.pause.Pause.TheVariants as pause
 use Rattle.proc_machine.specs.Pauses.{status_of}
 use Rattle.proc_machine.specs.Standing.{goes_by_itself}
-use Rattle.nm_base.specs.declared.letter.ProcNo.{ProcNo}
-use Rattle.processes.specs.Standing.{letter_made}
-use Rattle.proc_machine.specs.Machines.{letter_sent}
 use Rattle.c_process.specs.Shown.{end_of, look_of}
 use Rattle.c_process.specs.Following.{looks_at}
 
@@ -102,12 +99,3 @@ begins_seen l p e = ap (λ l. looks_at l p) e ∙ by p
     by (pause.Fault cause) = refl
     by (pause.Receive set) = same_set set
     by pause.Done = refl
-
--- the letter that an event sends
-pub letter_same : (me : ProcNo) (k : Kind) → letter_sent me k ≡ letter_made me k
-letter_same me (kind.Line line) = refl
-letter_same me (kind.Sent number dest chan len words) = refl
-letter_same me (kind.Accepted set id) = refl
-letter_same me (kind.Printed bytes) = refl
-letter_same me (kind.Ended value) = refl
-letter_same me (kind.Faulted cause) = refl

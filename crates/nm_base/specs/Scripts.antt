@@ -1,7 +1,8 @@
 -- A process's script, the histories of a script, and the laws of scripts.
-use Rattle.std.specs.Prelude.{◌≡◌, ◌≢◌, ℕ, ◌<◌, ◌≤◌, Bool, true, false, List, length, Option, Some, None, filter, filter_map, take, Contains}
+use Rattle.std.specs.Prelude.{◌≡◌, ◌≢◌, ℕ, ◌<◌, ◌≤◌, Bool, true, false, List, length, Option, Some, None, filter, filter_map, take, replicate, Contains}
 use Rattle.nm_base.specs.declared.letter.ProcNo.{ProcNo}
 use Rattle.nm_base.specs.declared.letter.LetterId.{LetterId}
+use Rattle.nm_base.specs.declared.letter.Letter.{Letter}
 use Rattle.nm_base.specs.declared.kind.Kind.{Kind}
 use Rattle.nm_base.specs.declared.kind.Kind.TheVariants.{Sent, Accepted, Ended, Faulted}
 use Rattle.nm_base.specs.Channels.{has_channel}
@@ -23,6 +24,12 @@ abbrev pub message_sent : ProcNo → Kind → Option Message
 message_sent me (Sent number dest chan len words) =
     Some record { id = record { sender = me; number = number }; dest = dest; chan = chan; words = take len words }
 message_sent me kind = None
+
+-- that letter, before it is posted
+abbrev pub letter_made : ProcNo → Kind → Option Letter
+letter_made me (Sent number dest chan len words) =
+    Some record { id = record { sender = me; number = number }; dest = dest; chan = chan; len = len; words = words; posted = 0; stamp = record { parts = replicate 32 0 } }
+letter_made me kind = None
 
 -- an event of a history. An Accepted comes with its letter
 pub data Step : Type 0 where

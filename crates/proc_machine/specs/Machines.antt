@@ -1,5 +1,5 @@
 -- What a machine stands for.
-use Rattle.std.specs.Prelude.{◌≡◌, ℕ, suc, ◌+◌, ◌-◌, ◌≤◌, List, [], ◌∷◌, ◌++◌, length, replicate, Option, Some, None}
+use Rattle.std.specs.Prelude.{◌≡◌, ℕ, suc, ◌+◌, ◌-◌, ◌≤◌, List, [], ◌∷◌, ◌++◌, length}
 use Rattle.std.specs.Vec.{vec_len, vec_capacity}
 use Rattle.nm_base.specs.declared.kind.Kind.{Kind}
 use Rattle.nm_base.specs.declared.letter.ProcNo.{ProcNo}
@@ -118,9 +118,3 @@ pub record HasAccepted (old new : Machine) (set : ℕ) (letter : Letter) (made :
   pub stands : (inputs : List Message) (events : List Kind) → StandsFor old inputs events → StandsFor new (inputs ++ message_of letter ∷ []) (made ∷ events)
   pub setting : setting_of new ≡ setting_of old
   pub sent : letters_sent new ≡ letters_sent old
-
--- the letter that an event of this process sends, if it sends one, before it is posted
-abbrev pub letter_sent : ProcNo → Kind → Option Letter
-letter_sent me (kind.Sent number dest chan len words) =
-    Some record { id = record { sender = me; number = number }; dest = dest; chan = chan; len = len; words = words; posted = 0; stamp = record { parts = replicate 32 0 } }
-letter_sent me k = None

@@ -35,13 +35,13 @@ impl<'c> Machine<'c> {
     ghost use Rattle.nm_base.specs.declared.kind.Kind.{Kind};
     ghost use Rattle.nm_base.specs.declared.kind.Kind.TheVariants as kind;
     ghost use Rattle.nm_base.specs.Message.{Message, message_of};
-    ghost use Rattle.nm_base.specs.Scripts.{is_last};
+    ghost use Rattle.nm_base.specs.Scripts.{is_last, letter_made};
     ghost use Rattle.nm_base.specs.Channels.{has_channel};
     ghost use Rattle.proc_machine.specs.declared.pause.Pause.TheVariants as pause;
     ghost use Rattle.proc_machine.specs.Pauses.{pause_of};
     ghost use Rattle.proc_machine.specs.View.{sent_by};
     ghost use Rattle.proc_machine.specs.Standing.{goes_by_itself};
-    ghost use Rattle.proc_machine.specs.Machines.{StandsFor, Expects, MakesNext, IsSame, IsAdvanced, HasAccepted, setting_of, next_of, state_of, frames_of, spare_output, letters_sent, letter_sent};
+    ghost use Rattle.proc_machine.specs.Machines.{StandsFor, Expects, MakesNext, IsSame, IsAdvanced, HasAccepted, setting_of, next_of, state_of, frames_of, spare_output, letters_sent};
 
     /// A machine that runs the code as process `me` of `n`, just before its first event. It reserves
     /// the memory for data, frames and operands. Conditions: `me` is below `n`, and `n` is 1 to 32.
@@ -153,7 +153,7 @@ impl<'c> Machine<'c> {
         requires spare { 4096 ≤ spare_output self.old }
         requires few { letters_sent self.old + 1 < 2 ^ 32 }
         ensures made { IsAdvanced self.old self.new result.0 }
-        ensures letter { result.1 ≡ letter_sent (setting_of self.old).me result.0 }
+        ensures letter { result.1 ≡ letter_made (setting_of self.old).me result.0 }
     {
         match self.next {
             Pause::Line { line } => (self.come_to_line(line), None),
@@ -207,7 +207,7 @@ impl<'c> Machine<'c> {
         requires waits { next_of self.old ≡ pause.Send }
         requires few { letters_sent self.old + 1 < 2 ^ 32 }
         ensures made { IsAdvanced self.old self.new (sent_by result) }
-        ensures letter { Some result ≡ letter_sent (setting_of self.old).me (sent_by result) }
+        ensures letter { Some result ≡ letter_made (setting_of self.old).me (sent_by result) }
     {
         let words = self.execution.words_to_send(self.setting);
         let (letter, next) = self.execution.go_past_send(self.setting, words);

@@ -1,9 +1,8 @@
 -- What a process stands for, and what it shows of its script.
-use Rattle.std.specs.Prelude.{◌≡◌, ℕ, ◌+◌, true, List, [], ◌∷◌, ◌++◌, Option, Some, None, replicate}
-use Rattle.nm_base.specs.declared.letter.ProcNo.{ProcNo}
+use Rattle.std.specs.Prelude.{◌≡◌, ℕ, ◌+◌, true, List, [], ◌∷◌, ◌++◌}
 use Rattle.nm_base.specs.declared.letter.Letter.{Letter}
 use Rattle.nm_base.specs.declared.kind.Kind.{Kind}
-use Rattle.nm_base.specs.declared.kind.Kind.TheVariants.{Sent, Accepted}
+use Rattle.nm_base.specs.declared.kind.Kind.TheVariants.{Accepted}
 use Rattle.processes.specs.declared.proc.Look.{Look}
 use Rattle.processes.specs.declared.proc.Look.TheVariants.{Able, Waiting, Ended, Faulted}
 use Rattle.nm_base.specs.Message.{Message}
@@ -25,12 +24,6 @@ Takes old new m = (s : Script) (letters : List Message) (k : ℕ) → old s lett
 -- each script of the first standing is of the second
 abbrev pub Stays : Standing → Standing → Type 0
 Stays old new = (s : Script) (letters : List Message) (k : ℕ) → old s letters k → new s letters k
-
--- the letter that an event sends, if it sends one, before it is posted
-abbrev pub letter_made : ProcNo → Kind → Option Letter
-letter_made me (Sent number dest chan len words) =
-    Some record { id = record { sender = me; number = number }; dest = dest; chan = chan; len = len; words = words; posted = 0; stamp = record { parts = replicate 32 0 } }
-letter_made me _ = None
 
 -- a process shows what its script does next
 abbrev pub Shows : Look → Next → Type 0

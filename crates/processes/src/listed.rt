@@ -2,7 +2,7 @@
 
 ghost use Rattle.std.specs.Prelude.{◌≡◌, true};
 ghost use Rattle.processes.specs.Listed.{are_proper};
-ghost use Rattle.processes.specs.Standing.{letter_made};
+ghost use Rattle.nm_base.specs.Scripts.{letter_made};
 
 use crate::proc::{Look, Proc};
 use nm_base::{Kind, Letter, LetterId, ProcNo, Stamp, WantOfMemory};

@@ -23,8 +23,8 @@ pub trait Proc: Sized + Drop {
     ghost use Rattle.nm_base.specs.declared.letter.ProcNo.{ProcNo};
     ghost use Rattle.processes.specs.declared.proc.Look.{Look};
     ghost use Rattle.nm_base.specs.Message.{Message, message_of};
-    ghost use Rattle.nm_base.specs.Scripts.{Script, IsLawful};
-    ghost use Rattle.processes.specs.Standing.{Makes, Takes, Stays, Shows, CanTake, letter_made, accepting};
+    ghost use Rattle.nm_base.specs.Scripts.{Script, IsLawful, letter_made};
+    ghost use Rattle.processes.specs.Standing.{Makes, Takes, Stays, Shows, CanTake, accepting};
 
     ghost stands_for: { Self → Script → List Message → ℕ → Type 0 };
 

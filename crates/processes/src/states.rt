@@ -1,8 +1,9 @@
 //! Processes typed by what they do next.
 
 ghost use Rattle.std.specs.Prelude.{◌≡◌, ◌+◌, ◌<◌};
-ghost use Rattle.processes.specs.Standing.{Makes, Takes, Stays, CanTake, letter_made, accepting};
+ghost use Rattle.processes.specs.Standing.{Makes, Takes, Stays, CanTake, accepting};
 ghost use Rattle.nm_base.specs.Message.{message_of};
+ghost use Rattle.nm_base.specs.Scripts.{letter_made};
 ghost use Rattle.processes.specs.Seats.{process_in, IsSeated, IfMoved, IfNoMemory};
 ghost use Rattle.processes.specs.declared.proc.Look.{Look};
 

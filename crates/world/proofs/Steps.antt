@@ -16,9 +16,9 @@ use Rattle.nm_base.specs.declared.kind.Kind.{Kind}
 use Rattle.nm_base.specs.declared.kind.Kind.TheVariants.{Line, Sent, Accepted, Printed, Ended, Faulted}
 use Rattle.nm_base.specs.Fitting.{more}
 use Rattle.nm_base.specs.Message.{Message, message_of}
-use Rattle.nm_base.specs.Scripts.{Script, Next, Goes, Wants, Over, message_sent}
+use Rattle.nm_base.specs.Scripts.{Script, Next, Goes, Wants, Over, message_sent, letter_made}
 use Rattle.nm_base.specs.Channels.{has_channel}
-use Rattle.processes.specs.Standing.{letter_made, Shows}
+use Rattle.processes.specs.Standing.{Shows}
 use Rattle.processes.specs.declared.proc.Look.{Look}
 use Rattle.processes.specs.declared.proc.Look.TheVariants.{Waiting}
 use Rattle.vector_clocks.specs.Parts.{part, part_of, ticked_part, merged_part}

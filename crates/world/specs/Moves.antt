@@ -5,8 +5,8 @@ use Rattle.nm_base.specs.declared.letter.Stamp.{Stamp}
 use Rattle.nm_base.specs.declared.letter.Letter.{Letter}
 use Rattle.nm_base.specs.declared.kind.Kind.{Kind}
 use Rattle.nm_base.specs.Message.{Message, message_of}
-use Rattle.nm_base.specs.Scripts.{Script}
-use Rattle.processes.specs.Standing.{Makes, Takes, Stays, letter_made}
+use Rattle.nm_base.specs.Scripts.{Script, letter_made}
+use Rattle.processes.specs.Standing.{Makes, Takes, Stays}
 
 -- the process at a place is another
 pub record Replaces {P : Type 0} (name_of : P → ProcNo) (old new : List P) (place : ℕ) : Type 0 where

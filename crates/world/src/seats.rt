@@ -4,8 +4,9 @@ ghost use Rattle.std.specs.Prelude.{◌≡◌, ℕ, ◌<◌, ◌≤◌, [], ◌�
 ghost use Rattle.std.specs.Vec.{vec_len, vec_capacity};
 ghost use Rattle.std.specs.List.{swap};
 ghost use Rattle.processes.specs.declared.proc.Look.{Look};
-ghost use Rattle.processes.specs.Standing.{Makes, Takes, Stays, CanTake, letter_made, accepting};
+ghost use Rattle.processes.specs.Standing.{Makes, Takes, Stays, CanTake, accepting};
 ghost use Rattle.nm_base.specs.Message.{message_of};
+ghost use Rattle.nm_base.specs.Scripts.{letter_made};
 ghost use Rattle.processes.specs.Seats.{process_in};
 ghost use Rattle.world.specs.Moves.{MadeAt, TookAt, StayedAt};
 
