@@ -28,7 +28,7 @@ pub cut_has : (c : Cut) (E : List Event) (a : Event) → Contains E a → Within
 cut_has c E a h w = filter_in (λ e. nat_le e.number (c e.proc.no)) E a h (le-leb a.number (c a.proc.no) w)
 
 -- the cut holds the send of each receive in it
-abbrev IsClosed : List Event → Cut → Type 0
+abbrev pub IsClosed : List Event → Cut → Type 0
 IsClosed E c = (a b : Event) → Contains E a → Contains E b → Delivers a b → Within c b → Within c a
 
 module _ (s : ℕ → Script) (law : (p : ℕ) → IsLawful (s p)) (M : ℕ) (c : Cut) where
@@ -46,10 +46,10 @@ module _ (s : ℕ → Script) (law : (p : ℕ) → IsLawful (s p)) (M : ℕ) (c 
     k = runs_sound s law crun
 
     -- all entries of its process are in the cut
-    has_own : (a : Event) → Contains E a → a.proc.no ≡ p → Contains C a
+    pub has_own : (a : Event) → Contains E a → a.proc.no ≡ p → Contains C a
     has_own a h q = cut_has c E a h (omega (arith, (numbers g a h).1, f.next_number, within, ap (count E) q, ap c q))
 
-    as_many : count C p ≡ count E p
+    pub as_many : count C p ≡ count E p
     as_many = elim (cases_eq (count E p) 0) [
       | inl z ↦ omega (arith, z, (part_cut k g (cut_part c E)).is_cut p)
       | inr nz ↦
@@ -79,7 +79,7 @@ module _ (s : ℕ → Script) (law : (p : ℕ) → IsLawful (s p)) (M : ℕ) (c 
         )
     still Over h = h
 
-    fits_cut : Fits s M C e
+    pub fits_cut : Fits s M C e
     fits_cut = record {
       next_number = omega (arith, f.next_number, as_many);
       next_kind = subst (KindFits M C e) (ap₂ (s p).next (sym (messages_same k g g (cut_part c E) (λ a h. h) p as_many)) (sym as_many)) (still _ f.next_kind);

@@ -18,11 +18,11 @@ use Rattle.event_list.proofs.TurnFacts.{turn_replays, stays_went, went_same}
 use Rattle.event_list.proofs.Progress.{progress}
 
 -- an event comes of the turn's process, which was below its count
-record Came (T : Trace) (R : List Event) (p : ℕ) (e : Event) : Type 0 where
-  of_p : e.proc.no ≡ p
-  room : count R p < T.counts p
+pub record Came (T : Trace) (R : List Event) (p : ℕ) (e : Event) : Type 0 where
+  pub of_p : e.proc.no ≡ p
+  pub room : count R p < T.counts p
 
-came : (M : ℕ) (T : Trace) (R : List Event) (p pick : ℕ) (e : Event) (n : Next) → by_next M (Some T) R p pick n ≡ Went e → Came T R p e
+pub came : (M : ℕ) (T : Trace) (R : List Event) (p pick : ℕ) (e : Event) (n : Next) → by_next M (Some T) R p pick n ≡ Went e → Came T R p e
 came M T R p pick e Over h = absurd (stays_went IsOver e h)
 came M T R p pick e (Goes kind) h = here (is_at_count (Some T) R p) refl h
   where
@@ -43,11 +43,11 @@ not_both : (w : Turned) (why : Idle) (e : Event) → w ≡ Stays why → w ≡ W
 not_both w why e h k = cc
 
 -- sums of equal parts, and of parts of which one is less
-sum_same : (n : ℕ) (f h : ℕ → ℕ) → ((q : ℕ) → q < n → h q ≡ f q) → sum_below n h ≡ sum_below n f
+pub sum_same : (n : ℕ) (f h : ℕ → ℕ) → ((q : ℕ) → q < n → h q ≡ f q) → sum_below n h ≡ sum_below n f
 sum_same zero f h e = refl
 sum_same (suc n) f h e = omega (arith, e n (omega arith), sum_same n f h (λ q l. e q (omega (arith, l))))
 
-sum_less : (n p : ℕ) (f h : ℕ → ℕ) → p < n → h p + 1 ≡ f p → ((q : ℕ) → (q ≡ p → ⊥) → h q ≡ f q) → sum_below n h + 1 ≡ sum_below n f
+pub sum_less : (n p : ℕ) (f h : ℕ → ℕ) → p < n → h p + 1 ≡ f p → ((q : ℕ) → (q ≡ p → ⊥) → h q ≡ f q) → sum_below n h + 1 ≡ sum_below n f
 sum_less zero p f h l e k = absurd (omega (arith, l))
 sum_less (suc n) p f h l e k = elim (cases_eq p n) [
   | inl at ↦ let s = sum_same n f h (λ q b. k q (λ z. omega (arith, b, z, at))) in omega (arith, s, e, ap f at, ap h at)

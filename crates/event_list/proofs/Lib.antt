@@ -25,5 +25,10 @@ pub mod MessageFacts
 pub mod SendOrder
 pub mod Growth
 pub mod RuleFacts
+pub mod OrderlyFacts
+pub mod EachTurn
+pub mod MaskFacts
+pub mod FirstPickFacts
+pub mod PastNumbers
 pub mod ExampleFacts
 pub mod WorkedFacts

@@ -75,7 +75,7 @@ fewer_taken (x ∷ xs) (suc j) (suc k) l = go (taken_of x) (fewer_taken xs j k (
     go (Some id) h = omega (arith, h)
 
 -- of two receives of one process, the later one has the higher number
-receive_order : {M : ℕ} {E : List Event} → Sound M E → (a b : Event) (s : ℕ) (x : LetterId) → Accepts E a s x → Contains E b → a.proc.no ≡ b.proc.no → a.number < b.number → receive_number E a < receive_number E b
+pub receive_order : {M : ℕ} {E : List Event} → Sound M E → (a b : Event) (s : ℕ) (x : LetterId) → Accepts E a s x → Contains E b → a.proc.no ≡ b.proc.no → a.number < b.number → receive_number E a < receive_number E b
 receive_order {E = E} g a b s x ha hb p l =
     let es = entries E a.proc.no in
     let k = a.number - 1 in

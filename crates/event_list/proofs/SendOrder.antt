@@ -19,7 +19,7 @@ use Rattle.event_list.proofs.Soundness.{send_number_new}
 use Rattle.event_list.proofs.TurnFacts.{precedes_from, precedes_is}
 
 -- each letter has a higher number than those of its sender before it
-abbrev InOrder : List Message → Message → Type 0
+abbrev pub InOrder : List Message → Message → Type 0
 InOrder ls m = (l : Message) → Contains ls l → l.id.sender.no ≡ m.id.sender.no → l.id.number < m.id.number
 
 letters_in_order : {M : ℕ} {E : List Event} → Sound M E → EachFits InOrder (letters E)
@@ -32,7 +32,7 @@ letters_in_order (more {xs = E} {x = e} g f) = subst (EachFits InOrder) (sym (le
         send_number_new g f a.0 l m record { in_list = a.1; letter = a.2 } h p)
 
 -- a filter keeps the order
-filter_in_order : (test : Message → Bool) {ls : List Message} → EachFits InOrder ls → EachFits InOrder (filter test ls)
+pub filter_in_order : (test : Message → Bool) {ls : List Message} → EachFits InOrder ls → EachFits InOrder (filter test ls)
 filter_in_order test none = none
 filter_in_order test (more {xs = ls} {x = m} g f) = subst (EachFits InOrder) (sym (filter-append test ls (m ∷ []))) (by (test m) (filter_in_order test g))
   where
@@ -40,11 +40,15 @@ filter_in_order test (more {xs = ls} {x = m} g f) = subst (EachFits InOrder) (sy
     by true k = more k (λ l c p. f l (in_filter test ls l c).0 p)
     by false k = subst (EachFits InOrder) (sym (append-nil (filter test ls))) k
 
-order_at : {ls : List Message} → EachFits InOrder ls → (xs : List Message) (m : Message) (ys : List Message) → ls ≡ xs ++ (m ∷ ys) → InOrder xs m
+pub order_at : {ls : List Message} → EachFits InOrder ls → (xs : List Message) (m : Message) (ys : List Message) → ls ≡ xs ++ (m ∷ ys) → InOrder xs m
 order_at g xs m ys e l c p = last_order (prefix (xs ++ m ∷ []) ys (subst (EachFits InOrder) (e ∙ sym (append_assoc xs (m ∷ []) ys)) g)) l c p
   where
     last_order : EachFits InOrder (xs ++ m ∷ []) → InOrder xs m
     last_order h = last xs m h
+
+-- the waiting letters are in order
+pub waiting_in_order : {M : ℕ} {E : List Event} → Sound M E → EachFits InOrder (waiting E)
+waiting_in_order {E = E} g = filter_in_order (λ m. not (is_taken E m.id)) (letters_in_order g)
 
 -- a waiting letter is first exactly where no rival waits before it
 pub first_by_place : {M : ℕ} {E : List Event} → Sound M E → (xs : List Message) (m : Message) (ys : List Message) → waiting E ≡ xs ++ (m ∷ ys) → (is_first E m ≡ true) ↔ ((l : Message) → Contains xs l → IsRival l m → ⊥)
@@ -65,7 +69,7 @@ first_by_place {E = E} g xs m ys e = (
 )
   where
     ordered : EachFits InOrder (waiting E)
-    ordered = filter_in_order (λ m. not (is_taken E m.id)) (letters_in_order g)
+    ordered = waiting_in_order g
 
     after : (l : Message) → Contains ys l → m.id.sender.no ≡ l.id.sender.no → m.id.number < l.id.number
     after l c p =
@@ -85,4 +89,4 @@ one_named {E = E} g xs m ys e l c p n = elim c [
 ]
   where
     ordered : EachFits InOrder (waiting E)
-    ordered = filter_in_order (λ m. not (is_taken E m.id)) (letters_in_order g)
+    ordered = waiting_in_order g

@@ -1,6 +1,6 @@
 -- A logged letter has its witness.
 use Rattle.std.proofs.Common.{◌≡◌, ℕ, ◌+◌, ◌<◌, Bool, true, false, cond, List, [], ◌∷◌, ◌++◌, refl, sym, ap, ◌∙◌, subst, inl, inr, arith}
-use Rattle.std.specs.Prelude.{filter, Contains, nat_le}
+use Rattle.std.specs.Prelude.{filter, Contains, nat_le, ◌⊎◌, ◌↔◌}
 use mathlib.Core.Path.{ap₂}
 use Rattle.std.proofs.lemmas.Bool.{leb-true, le-leb, false≢true}
 use Rattle.nm_base.specs.declared.letter.LetterId.{LetterId}
@@ -10,15 +10,15 @@ use Rattle.nm_base.specs.Message.{Message}
 use Rattle.nm_base.specs.Scripts.{Script, Next, Goes, Wants, Over, IsLawful}
 use Rattle.event_list.specs.declared.Event.{Event}
 use Rattle.event_list.specs.Events.{count, messages, letter_of, Sends, Accepts}
-use Rattle.event_list.specs.Order.{Before, Cut, Within}
+use Rattle.event_list.specs.Order.{Link, Before, one, further, Cut, Within}
 use Rattle.event_list.specs.Runs.{MayTake, KindFits, Fits, IsRun, Sound}
-use Rattle.event_list.specs.Races.{CouldTake, Race, IsEarlier}
+use Rattle.event_list.specs.Races.{CouldTake, Race, IsEarlier, IsLogged}
 use Rattle.event_list.specs.Traces.{Keeps, nothing, kept, left_out}
 use Rattle.event_list.specs.Cuts.{cut_list}
-use Rattle.event_list.specs.Witnesses.{IsKept, KeptCut, taking_instead, IsWitnessOf}
+use Rattle.event_list.specs.Witnesses.{IsKept, KeptCut, taking_instead, IsWitness, IsWitnessOf}
 use Rattle.event_list.proofs.Members.{cons_here, cons_there}
-use Rattle.event_list.proofs.Splits.{SplitAt, split_at, from_before}
-use Rattle.event_list.proofs.Soundness.{same_place, send_same}
+use Rattle.event_list.proofs.Splits.{SplitAt, split_at, from_before, front, last}
+use Rattle.event_list.proofs.Soundness.{numbers, same_place, send_same}
 use Rattle.event_list.proofs.ClockLaws.{no_cycle}
 use Rattle.event_list.proofs.RaceLaw.{JoinedCut, joined_cut, race_law, no_letter}
 use Rattle.event_list.proofs.RunsSound.{runs_sound, no_receive, accepted_parts}
@@ -27,7 +27,7 @@ use Rattle.event_list.proofs.Parts.{taker_is}
 use Rattle.event_list.proofs.CutRuns.{cut_part, cut_within, cut_has, cut_runs, cut_count}
 
 -- a filter keeps what its test tells
-keeps_filter : {X : Type 0} (P : X → Type 0) (test : X → Bool) (xs : List X) → ((x : X) → Contains xs x → (test x ≡ true → P x) × (P x → test x ≡ true)) → Keeps P xs (filter test xs)
+pub keeps_filter : {X : Type 0} (P : X → Type 0) (test : X → Bool) (xs : List X) → ((x : X) → Contains xs x → (test x ≡ true → P x) × (P x → test x ≡ true)) → Keeps P xs (filter test xs)
 keeps_filter P test [] h = nothing
 keeps_filter P test (x ∷ xs) h = by (test x) refl (keeps_filter P test xs (λ y c. h y (cons_there x xs y c)))
   where
@@ -48,6 +48,31 @@ keeps_as f b nothing = nothing
 keeps_as f b (kept {x = x} p h) = kept (f x p) (keeps_as f b h)
 keeps_as f b (left_out {x = x} p h) = left_out (λ q. p (b x q)) (keeps_as f b h)
 
+-- what a joined cut holds is the two pasts without q
+joined_kept : {M : ℕ} {E : List Event} → Sound M E → (a q : Event) (j : JoinedCut E a q) → (Before E q a → ⊥) → (a ≡ q → ⊥) → (x : Event) → Contains E x → Within j.cut x ↔ IsKept E a q x
+joined_kept {E = E} g a q j free differs x hx = (
+  (λ w. elim (j.only x hx w) [
+    | inl u ↦ (inl (hx, u), (λ e. elim u [ inl z ↦ differs (sym z ∙ e) | inr b ↦ free (subst (λ y. Before E y a) e b) ]))
+    | inr b ↦ (inr (hx, inr b), (λ e. no_cycle g q (subst (λ y. Before E y q) e b)))
+  ]),
+  (λ h. j.holds x hx (elim h.0 [
+    | inl w ↦ inl w.1
+    | inr w ↦ elim w.1 [ inl e ↦ absurd (h.1 e) | inr b ↦ inr b ]
+  ])),
+)
+
+not_its_send : {M : ℕ} {E : List Event} {a q : Event} {m : Message} → CouldTake M E q m → Sends E a m → a ≡ q → ⊥
+not_its_send {q = q} {m = m} could ha e = no_letter q could.set could.took m could.receive.kind (ap letter_of (sym e) ∙ ha.letter)
+
+-- the pasts of a logged letter's send and of the last receive that could have taken it, without the receive, are a consistent cut
+pub kept_cut : (M : ℕ) (E : List Event) (m : Message) (q a : Event) → Sound M E → IsEarlier M E m q → Race M E q m → Sends E a m → KeptCut E a q
+kept_cut M E m q a g earlier race ha =
+    let could = earlier.could in
+    let free = (race_law g q a m could ha).0 race in
+    let differs = not_its_send could ha in
+    let j = joined_cut g a q could.set could.took ha.in_list could.receive free differs in
+    record { cut = j.cut; consistent = j.consistent; holds = joined_kept g a q j free differs }
+
 module _ (s : ℕ → Script) (law : (p : ℕ) → IsLawful (s p)) (M : ℕ) (E : List Event) (run : IsRun s M E) (m : Message) (q : Event) (is_earlier : IsEarlier M E m q) (race : Race M E q m) where
   g : Sound M E
   g = runs_sound s law run
@@ -65,7 +90,7 @@ module _ (s : ℕ → Script) (law : (p : ℕ) → IsLawful (s p)) (M : ℕ) (E 
   free = (race_law g q a m could ha).0 race
 
   differs : a ≡ q → ⊥
-  differs e = no_letter q could.set could.took m could.receive.kind (ap letter_of (sym e) ∙ ha.letter)
+  differs = not_its_send could ha
 
   joined : JoinedCut E a q
   joined = joined_cut g a q could.set could.took ha.in_list could.receive free differs
@@ -86,17 +111,8 @@ module _ (s : ℕ → Script) (law : (p : ℕ) → IsLawful (s p)) (M : ℕ) (E 
   part = cut_part c E
 
   -- what the cut holds is the two pasts without q
-  kept_within : (x : Event) → Contains E x → IsKept E a q x → Within c x
-  kept_within x hx h = joined.holds x hx (elim h.0 [
-    | inl w ↦ inl w.1
-    | inr w ↦ elim w.1 [ inl e ↦ absurd (h.1 e) | inr b ↦ inr b ]
-  ])
-
-  within_kept : (x : Event) → Contains E x → Within c x → IsKept E a q x
-  within_kept x hx w = elim (joined.only x hx w) [
-    | inl u ↦ (inl (hx, u), (λ e. elim u [ inl z ↦ differs (sym z ∙ e) | inr b ↦ free (subst (λ y. Before E y a) e b) ]))
-    | inr b ↦ (inr (hx, inr b), (λ e. no_cycle g q (subst (λ y. Before E y q) e b)))
-  ]
+  holds : (x : Event) → Contains E x → Within c x ↔ IsKept E a q x
+  holds = joined_kept g a q joined free differs
 
   -- the run up to q, and its next
   split : SplitAt (Fits s M) E q
@@ -165,21 +181,13 @@ module _ (s : ℕ → Script) (law : (p : ℕ) → IsLawful (s p)) (M : ℕ) (E 
       front = C;
       whole = refl;
       run = more crun last_fits;
-      holds = λ x. ((λ h. within_kept x (part x h) (cut_within c E x h)), (λ h. let i = kept_in x h in cut_has c E x i (kept_within x i h)));
+      holds = λ x. ((λ h. (holds x (part x h)).0 (cut_within c E x h)), (λ h. let i = kept_in x h in cut_has c E x i ((holds x i).1 h)));
     };
-    in_order = keeps_filter (IsKept E a q) (λ e. nat_le e.number (c e.proc.no)) E (λ x hx. ((λ t. within_kept x hx (leb-true x.number (c x.proc.no) t)), (λ h. le-leb x.number (c x.proc.no) (kept_within x hx h))));
+    in_order = keeps_filter (IsKept E a q) (λ e. nat_le e.number (c e.proc.no)) E (λ x hx. ((λ t. (holds x hx).0 (leb-true x.number (c x.proc.no) t)), (λ h. le-leb x.number (c x.proc.no) ((holds x hx).1 h))));
   }
     where
       kept_in : (x : Event) → IsKept E a q x → Contains E x
       kept_in x h = elim h.0 [ inl w ↦ w.0 | inr w ↦ w.0 ]
-
-  -- the two pasts without q are a consistent cut
-  pub the_cut : (s : Event) → Sends E s m → KeptCut E s q
-  the_cut s hs = subst (λ y. KeptCut E y q) (send_same g a s m m ha hs refl refl) record {
-    cut = c;
-    consistent = joined.consistent;
-    holds = λ x hx. (within_kept x hx, kept_within x hx);
-  }
 
 -- the witness in E's order is one
 pub witness_one : {s : ℕ → Script} {M : ℕ} {E : List Event} {m : Message} → Sound M E → (V W : List Event) → IsWitnessOf s M E m V → IsWitnessOf s M E m W → V ≡ W
@@ -195,3 +203,36 @@ witness_one {E = E} {m = m} g V W v w =
     let order : Keeps (IsKept E y.send y.earlier) E x.front = subst (λ e. Keeps (IsKept E y.send e) E x.front) earlier (subst (λ e. Keeps (IsKept E e x.earlier) E x.front) sends v.in_order) in
     let fronts : x.front ≡ y.front = keeps_one order w.in_order in
     x.whole ∙ ap (λ f. f ++ taking_instead x.earlier x.set m.id ∷ []) fronts ∙ ap (λ e. y.front ++ taking_instead e x.set m.id ∷ []) earlier ∙ ap (λ t. y.front ++ taking_instead y.earlier t m.id ∷ []) sets ∙ sym y.whole
+
+-- the first link of a chain
+first_link : {E : List Event} {a b : Event} → Before E a b → (x : Event) × Link E a x × ((x ≡ b) ⊎ Before E x b)
+first_link {b = b} (one l) = (b, l, inl refl)
+first_link {E = E} {b = b} (further h l) = let r = first_link h in (
+  r.0,
+  r.1,
+  inr (elim r.2 [ inl e ↦ subst (λ y. Before E y b) (sym e) (one l) | inr k ↦ further k l ]),
+)
+
+-- a letter that has a witness is logged
+pub witness_real : (s : ℕ → Script) (M : ℕ) (E : List Event) (m : Message) (W : List Event) → ((p : ℕ) → IsLawful (s p)) → IsRun s M E → IsWitness s M E m W → IsLogged M E m
+witness_real s M E m W law run w = (w.earlier, w.is_earlier, (race_law g w.earlier w.send m w.is_earlier.could w.sends).1 free)
+  where
+    g : Sound M E
+    g = runs_sound s law run
+
+    end : IsRun s M (w.front ++ taking_instead w.earlier w.set m.id ∷ [])
+    end = subst (IsRun s M) w.whole w.run
+
+    first_entries : Sound M w.front
+    first_entries = runs_sound s law (front w.front (taking_instead w.earlier w.set m.id) end)
+
+    -- had the receive happened before the send, its process's next entry would be kept
+    free : Before E w.earlier w.send → ⊥
+    free h =
+        let x = first_link h in
+        elim x.1.how [
+          | inr d ↦ no_letter w.earlier w.set w.took d.letter w.receive d.sent
+          | inl f ↦
+              let kept = (w.holds x.0).1 (inl (x.1.second, x.2), (λ e. omega (arith, f.later, ap (λ z. z.number) e))) in
+              omega (arith, (numbers first_entries x.0 kept).1, (last w.front (taking_instead w.earlier w.set m.id) end).next_number, f.later, ap (count w.front) f.same)
+        ]

@@ -1,11 +1,11 @@
 -- The worked runs, computed.
-use Rattle.std.proofs.Common.{◌≡◌, ℕ, zero, suc, List, [], ◌∷◌, ◌++◌, refl}
+use Rattle.std.proofs.Common.{◌≡◌, ℕ, zero, suc, [], ◌∷◌, ◌++◌, refl}
 use Rattle.nm_base.specs.Channels.{has_channel}
 use Rattle.nm_base.specs.Scripts.{IsLawful}
 use Rattle.processes.specs.ListedFacts.{listed_lawful}
 use Rattle.event_list.specs.Events.{entries}
-use Rattle.event_list.specs.Clocks.{Clocks, clocks}
-use Rattle.event_list.specs.Turns.{Finishing, run_of, replay_of, finish_of}
+use Rattle.event_list.specs.Clocks.{clocks}
+use Rattle.event_list.specs.Turns.{run_of, replay_of, finish_of}
 use Rattle.event_list.specs.Worked.{name, gatherer, teller, gathering, talker, talking, turns_of, parts_below, trace, recorded, replayed, talked, WorkedRuns}
 
 lawful : (p : ℕ) → IsLawful (gathering p)

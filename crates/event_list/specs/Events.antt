@@ -1,5 +1,5 @@
 -- What is read off a list of events.
-use Rattle.std.specs.Prelude.{◌≡◌, ℕ, ◌<◌, ◌==◌, ◌&&◌, Bool, List, length, Option, Some, None, filter, filter_map, find, Contains}
+use Rattle.std.specs.Prelude.{◌≡◌, ℕ, ◌<◌, ◌==◌, Bool, List, length, Option, Some, None, filter, filter_map, find, Contains}
 use Rattle.nm_base.specs.declared.letter.LetterId.{LetterId}
 use Rattle.nm_base.specs.declared.kind.Kind.{Kind}
 use Rattle.nm_base.specs.declared.kind.Kind.TheVariants.{Accepted}

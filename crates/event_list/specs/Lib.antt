@@ -5,7 +5,9 @@ pub mod Order
 pub mod Races
 pub mod Clocks
 pub mod Traces
+pub mod TraceRules
 pub mod Turns
+pub mod FirstPicks
 pub mod Rules
 pub mod Witnesses
 pub mod Sameness

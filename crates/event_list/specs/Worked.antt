@@ -8,7 +8,7 @@ use Rattle.nm_base.specs.Scripts.{Script, IsLawful}
 use Rattle.processes.specs.Listed.{listed}
 use Rattle.event_list.specs.declared.Event.{Event}
 use Rattle.event_list.specs.Events.{entries}
-use Rattle.event_list.specs.Clocks.{Clocks, clocks}
+use Rattle.event_list.specs.Clocks.{clocks}
 use Rattle.event_list.specs.Traces.{Trace}
 use Rattle.event_list.specs.Turns.{Turn, run_of, replay_of, finish_of}
 

@@ -2,7 +2,7 @@
 
 ghost use Rattle.event_list.specs.Example.{ExampleLaw};
 ghost use Rattle.event_list.specs.Worked.{WorkedRuns};
-ghost use Rattle.event_list.specs.Laws.{RunsAreSound, RaceLaw, ReplayPrefix, ClockLaw, StampLaw, TurnLaw, FinishLaw, ProgressLaw, WitnessLaw, ProjectionLaw, FullReplayLaw, LoggedLaw, TraceLaw, MessageLaw, ChannelLaw, FirstLaw, CutLaw, CutRunLaw, NeedLaw, RuleLaw};
+ghost use Rattle.event_list.specs.Laws.{RunsAreSound, RaceLaw, ReplayPrefix, ClockLaw, StampLaw, TurnLaw, FinishLaw, ProgressLaw, WitnessLaw, ProjectionLaw, FullReplayLaw, LoggedLaw, TraceLaw, MessageLaw, ChannelLaw, FirstLaw, CutLaw, CutRunLaw, MaskLaw, FirstPickLaw, NeedLaw, RuleLaw};
 
 /// Every run of lawful scripts is sound.
 pub fn runs_are_sound()
@@ -92,6 +92,16 @@ pub fn cut_law()
 /// The entries of a consistent cut are a run.
 pub fn cut_run_law()
     ensures { CutRunLaw }
+{}
+
+/// Fewer ordered channels allow more.
+pub fn mask_law()
+    ensures { MaskLaw }
+{}
+
+/// A replay made with pick 0, its finishing and its consistent cuts are made so again.
+pub fn first_pick_law()
+    ensures { FirstPickLaw }
 {}
 
 /// An entry whose earlier receive has no note is needed.
