@@ -1,4 +1,6 @@
-//! Lists of events: runs, happened-before, races, logging, replay and witnesses.
+//! Lists of events: runs, happened-before (Lamport), vector timestamps (Fidge, Mattern), races, which
+//! letters are logged, replay and witnesses. To log only letters that race is an idea of Netzer and
+//! Miller (Supercomputing 1992); the exact rule is this project's own.
 #![tactic(auto)]
 
 use nm_base::{Kind, ProcNo};

@@ -57,11 +57,16 @@ fn goes_through_its_states(rt: HostRuntime) -> Result<(), Fail> {
     Ok(())
 }
 
+/// A copy, through the trait.
+fn copied<P: Proc>(process: &P, alloc: Global) -> Result<P, WantOfMemory> {
+    process.copy(alloc)
+}
+
 /// A copy shows what the process shows.
 #[test]
 fn copies(rt: HostRuntime) -> Result<(), Fail> {
     let actor = caller(rt.alloc())?;
-    let copy = actor.copy(rt.alloc())?;
+    let copy = copied(&actor, rt.alloc())?;
     assert_eq!(rt; copy.look(), Look::Able);
     assert_eq!(rt; copy.count(), 0);
     assert_eq!(rt; copy.me(), actor.me());

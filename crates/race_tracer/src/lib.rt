@@ -1,6 +1,7 @@
 //! The test for races, made as letters are received: a letter is logged where it could have been
 //! taken by an earlier receive, and the last such receive did not happen before its send. The
-//! timestamps decide it with one comparison of two numbers.
+//! timestamps decide it with one comparison of two numbers. To log only letters that race is an idea
+//! of Netzer and Miller (Supercomputing 1992); the exact rule is this project's own.
 #![tactic(auto)]
 
 mod calls;

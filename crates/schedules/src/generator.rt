@@ -1,6 +1,7 @@
 //! Schedules from a seed.
 
 ghost use Rattle.std.specs.Prelude.{◌≡◌, ◌<◌, ◌≤◌, IfOk};
+ghost use Rattle.schedules.specs.Bounds.{AreFewTurns};
 ghost use Rattle.schedules.specs.Generated.{next_number, numbered_turn, generated_turns};
 
 use crate::schedule::{Schedule, Turn};
@@ -30,12 +31,14 @@ fn turn_of(x: u32, n: u8) -> Turn
 
 /// So many turns of n processes, by the numbers that follow the seed: x becomes
 /// `(1664525 * x + 1013904223) mod 2^32` for each turn, its process is `(x div 65536) mod n` and
-/// its pick `(x div 256) mod 256`. A linear congruential generator, whose low bits are poor.
+/// its pick `(x div 256) mod 256`. A linear congruential generator, whose low bits are poor. It
+/// needs n from 1 to 32 and at most 1,000,000 turns.
 pub fn generated(alloc: Global, seed: u32, n: u8, turns: u32) -> Result<Schedule, WantOfMemory>
     requires some { 0 < n }
     requires few { n ≤ 32 }
     requires many { turns ≤ 1000000 }
-    ensures { IfOk result (λ s. s ≡ generated_turns n seed turns) }
+    ensures list { IfOk result (λ s. s ≡ generated_turns n seed turns) }
+    ensures turns { IfOk result (AreFewTurns n) }
 {
     let mut all = Vec::new(alloc);
     let mut x = seed;

@@ -5,7 +5,7 @@ use Rattle.std.specs.Option.{option_to_list}
 use Rattle.std.specs.List.{cons_option}
 use Rattle.std.proofs.lemmas.Bool.{cases_eq, eq-eqb, eqb-true, and_parts, false_from_ne_true, false≢true}
 use Rattle.std.proofs.lemmas.List.{append-nil}
-use Rattle.std.proofs.lemmas.List.Elements.{Contains-append_cases, Contains-append_left, Contains-append_right}
+use Rattle.std.proofs.lemmas.List.Elements.{Contains-append_cases, Contains-append_left, Contains-append_right, Contains-push}
 use Rattle.std.proofs.lemmas.Nat.Bits.{bit_at-zero}
 use Rattle.std.proofs.lemmas.Option.{slice_get-map, slice_get_within, same_Some, none-some}
 use Rattle.nm_base.specs.declared.letter.ProcNo.{ProcNo}
@@ -88,6 +88,11 @@ pub posted_stays : (E : List Event) (e : Event) (l : Letter) → names_it (lette
 posted_stays E e l h k = record {
   place = ap (λ ls. slice_get ls l.posted) (letters_grow E e) ∙ get_front (letters E) _ l.posted (message_of l) k.place;
   stamp = λ q. k.stamp q ∙ sym (ap (λ c. c.stamp l.id q) (clocks_grow E e) ∙ ap (λ b. cond b (ticked (clocks E) e q) ((clocks E).stamp l.id q)) h);
+  send = k.send;
+  in_list = Contains-append_left E (e ∷ []) k.send k.in_list;
+  unposted = k.unposted;
+  made = k.made;
+  is = k.is;
 }
 
 pub count_le : (E : List Event) (p : ℕ) → count E p ≤ length E
@@ -274,6 +279,11 @@ module _ {P M : Type 0} (stands_for : P → Script → List Message → ℕ → 
                 stamps r ∙ clock_is p r ∙ ap (λ c. c.clock p r) (clocks_grow E e)
                 ∙ ap (λ b. cond b (ticked (clocks E) e r) ((clocks E).clock p r)) (same_number p)
                 ∙ sym (ap (λ c. c.stamp l.id r) (clocks_grow E e) ∙ ap (λ b. cond b (ticked (clocks E) e r) ((clocks E).stamp l.id r)) (ap (λ o. names_it o l.id) m ∙ same_name_from l.id l.id refl refl));
+            send = e;
+            in_list = Contains-push E e;
+            unposted = l;
+            made = sym (moved.sends ∙ ap (λ n. letter_made n kind) (h.names p moved.at.before moved.at.was)) ∙ q;
+            is = refl;
           }
         where
           same_number : (n : ℕ) → (n == n) ≡ true

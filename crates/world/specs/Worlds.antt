@@ -4,7 +4,7 @@ use Rattle.nm_base.specs.declared.letter.ProcNo.{ProcNo}
 use Rattle.nm_base.specs.declared.letter.Stamp.{Stamp}
 use Rattle.nm_base.specs.declared.letter.Letter.{Letter}
 use Rattle.nm_base.specs.Message.{Message, message_of}
-use Rattle.nm_base.specs.Scripts.{Script}
+use Rattle.nm_base.specs.Scripts.{Script, letter_made}
 use Rattle.vector_clocks.specs.Parts.{part, part_of}
 use Rattle.event_list.specs.declared.Event.{Event}
 use Rattle.event_list.specs.Events.{count, messages, receives, letters}
@@ -12,6 +12,7 @@ use Rattle.event_list.specs.Runs.{IsRun}
 use Rattle.event_list.specs.Traces.{waiting}
 use Rattle.event_list.specs.Clocks.{clocks}
 use Rattle.event_list.specs.Laws.{AreLawful}
+use Rattle.world.specs.Moves.{stamped}
 
 -- what a contract sees of a world: its processes by number, its mail, the clocks, how many letters each process accepted, and how many letters and events there were
 pub record Parts (P M : Type 0) : Type 0 where
@@ -26,6 +27,12 @@ pub record Parts (P M : Type 0) : Type 0 where
 pub record IsPosted (E : List Event) (l : Letter) : Type 0 where
   pub place : slice_get (letters E) l.posted ≡ Some (message_of l)
   pub stamp : (q : ℕ) → part l.stamp q ≡ (clocks E).stamp l.id q
+  -- but for the two it is the letter that its send made, unused words included
+  pub send : Event
+  pub in_list : Contains E send
+  pub unposted : Letter
+  pub made : letter_made send.proc send.kind ≡ Some unposted
+  pub is : l ≡ stamped l.posted l.stamp unposted
 
 -- the world stands for the scripts s, one for each process, after the events E
 pub record IsWorldOf {P M : Type 0} (stands_for : P → Script → List Message → ℕ → Type 0) (name_of : P → ProcNo) (letters_of : M → List Letter) (w : Parts P M) (s : ℕ → Script) (E : List Event) : Type 0 where
