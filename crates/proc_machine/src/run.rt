@@ -16,7 +16,8 @@ impl Execution {
         requires { ∥ Holds (code_of at.code.now) self.now ∥₁ }
         ensures { instr_at (code_of at.entry.code.now) self.now ≡ Some result }
     {
-        at.code.fetch(self.frame.start as usize + self.frame.place as usize)
+        at.code
+            .fetch(self.frame.start as usize + self.frame.place as usize)
     }
 
     /// Does the next instruction.

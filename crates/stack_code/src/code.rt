@@ -77,7 +77,7 @@ pub struct Code {
 }
 
 impl Code {
-    ghost use Rattle.std.specs.Prelude.{◌≡◌, ℕ, ◌+◌, ◌<◌, ◌≤◌, length, map, Some, slice_get, string_bytes, option_map, IfOk};
+    ghost use Rattle.std.specs.Prelude.{◌≡◌, ℕ, ◌<◌, ◌≤◌, length, Some, slice_get, option_map, IfOk};
     ghost use Rattle.stack_code.specs.View.{code_of};
     ghost use Rattle.stack_code.specs.Seek.{found, found_at, found_global, IsPlaceIn};
     ghost use Rattle.stack_code.specs.Code.{steps_of};

@@ -1,8 +1,7 @@
 //! The code of all functions in one list.
 
-ghost use Rattle.std.specs.Prelude.{◌≡◌, ℕ, ◌+◌, ◌<◌, ◌≤◌, [], ◌∷◌, ◌++◌, map, length, IfOk, OnOk, IsTrue};
+ghost use Rattle.std.specs.Prelude.{◌≡◌, ◌≤◌, [], ◌∷◌, ◌++◌, map, length, IfOk, OnOk, IsTrue};
 ghost use Rattle.std.specs.List.{list_all, sum_by};
-ghost use Rattle.stack_code.specs.declared.code.CodeFunction.{CodeFunction};
 ghost use Rattle.stack_code.specs.Blocks.{function_of, is_kept};
 ghost use Rattle.stack_code.specs.Layout.{functions_in, is_laid_out};
 
@@ -107,7 +106,6 @@ impl Layout {
 }
 
 impl LaidFunction {
-    ghost use Rattle.std.specs.Prelude.{length};
     ghost use Rattle.std.specs.Option.{option_copied};
     ghost use Rattle.stack_code.specs.Blocks.{entered_in, table_of, blocks_nest};
     ghost use Rattle.stack_code.specs.Seek.{found_among, in_blocks};
