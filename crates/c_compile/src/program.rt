@@ -22,8 +22,8 @@ use std::alloc::Global;
 /// and after every number of events, the run of the code stops with the status and in the state that
 /// the meaning of the program has. It has the program's functions, variables and blocks.
 ///
-/// `WantOfMemory` also answers a function with more than 4,294,967,295 instructions or blocks, which
-/// no text of 262,144 bytes has.
+/// `WantOfMemory` also answers more than 4,294,967,295 instructions, or so many blocks in a function,
+/// which no text of 262,144 bytes has.
 pub fn compile(alloc: Global, p: &Program) -> Result<Code, WantOfMemory>
     ensures code { IfOk result (λ code. code_of code ≡ program_code p.now.globals p.now.functions p.now.texts p.now.main) }
     ensures stands { IfOk result (λ code. (count me : ℕ) → StandsFor (setting_of p.now count me) (code_of code)) }
@@ -33,7 +33,7 @@ pub fn compile(alloc: Global, p: &Program) -> Result<Code, WantOfMemory>
     let functions = emit_functions(alloc, p, variables.as_slice())?;
     let texts = copy_texts(alloc, p.texts.as_slice())?;
     let words = first_words(alloc, p.globals.as_slice())?;
-    let code = Code::new(functions, p.main, texts, words, variables);
+    let code = Code::new(alloc, functions, p.main, texts, words, variables)?;
     Ok(code)
 }
 

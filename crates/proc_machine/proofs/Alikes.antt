@@ -46,6 +46,7 @@ module _ (code : Code) (count me : ℕ) (a : Execution) (o : Vec ℕ Global) (sa
   fresh_alike : IsFresh code a → IsFresh code b
   fresh_alike f = record {
     function = f.function;
+    start = f.start;
     place = f.place;
     line = f.line;
     base = f.base;

@@ -14,6 +14,7 @@ use Rattle.stack_code.specs.declared.code.FunctionFrame.{FunctionFrame}
 use Rattle.stack_code.specs.declared.instr.Instr.TheVariants as instr
 use Rattle.stack_code.specs.Code.{FunctionCode, Code}
 use Rattle.stack_code.specs.Frame.{frame_of}
+use Rattle.stack_code.specs.Together.{start_of}
 use Rattle.stack_code.specs.Machine.{Control, popped, called, new_frame}
 use Rattle.proc_machine.specs.declared.execution.Execution.{Execution}
 use Rattle.proc_machine.specs.declared.callers.Caller.{Caller as KeptCaller}
@@ -149,16 +150,16 @@ module _ (e : Execution) where
           last = λ events. past_depth g.frame_words depth h _ _ events 1 ∙ fails_last g.frame_words (fits g.frame_words) d2 _ _ events;
         }
 
-    pub called_goes : (o : Option FunctionCode) → option_map frame_of o ≡ Some f → depth ≡ true → fits f.frame_words ≡ true → f.param_words ≤ length e.calls.own → (events : List Kind)
-        → called number o (control_of e) (data_with e events 0) ≡ Done (control_of (opened number f e)) (data_with (opened number f e) events 0)
-    called_goes None is h d few events = cc
-    called_goes (Some g) is h d few events =
+    pub called_goes : (start : ℕ) (o : Option FunctionCode) → option_map frame_of o ≡ Some f → depth ≡ true → fits f.frame_words ≡ true → f.param_words ≤ length e.calls.own → (events : List Kind)
+        → called number o (control_of e) (data_with e events 0) ≡ Done (control_of (opened number start f e)) (data_with (opened number start f e) events 0)
+    called_goes start None is h d few events = cc
+    called_goes start (Some g) is h d few events =
         let same : frame_of g ≡ f = cc in
         subst (λ (x : FunctionFrame). fits x.frame_words ≡ true → x.param_words ≤ length e.calls.own → called number (Some g) (control_of e) (data_with e events 0) ≡ Done
-        (control_of (opened number x e)) (data_with (opened number x e) events 0)) same by_frame d few
+        (control_of (opened number start x e)) (data_with (opened number start x e) events 0)) same by_frame d few
       where
         by_frame : fits g.frame_words ≡ true → g.param_words ≤ length e.calls.own
-            → called number (Some g) (control_of e) (data_with e events 0) ≡ Done (control_of (opened number (frame_of g) e)) (data_with (opened number (frame_of g) e) events 0)
+            → called number (Some g) (control_of e) (data_with e events 0) ≡ Done (control_of (opened number start (frame_of g) e)) (data_with (opened number start (frame_of g) e) events 0)
         by_frame d few =
             let own = e.calls.own in
             let n = g.param_words in
@@ -184,9 +185,9 @@ pub size_is : (o : Option FunctionCode) (f : FunctionFrame) → option_map frame
 size_is None f h = cc
 size_is (Some g) f h = let same : g.frame_words ≡ f.frame_words = cc in same
 
-pub call_keeps : (code : Code) (number : ℕ) (f : FunctionFrame) (old new : Execution) → new ≡ opened number f old → option_map frame_of (slice_get code.functions number) ≡ Some f
+pub call_keeps : (code : Code) (number start : ℕ) (f : FunctionFrame) (old new : Execution) → start ≡ start_of code number → new ≡ opened number start f old → option_map frame_of (slice_get code.functions number) ≡ Some f
     → length old.words + f.frame_words ≤ 65536 → Keeps code (instr.Call number) old new
-call_keeps code number f old new e is fits =
+call_keeps code number start f old new begins e is fits =
     let size = size_is (slice_get code.functions number) f is in
     let inner : length old.words + frame_words_by (slice_get code.functions number) ≤ 65536 = omega (arith, size, fits) in
-    subst (λ x. Keeps code (instr.Call number) old x) (sym e) (record { small = tt; height = refl; frames = λ h. (inner, (h.0, h.1)) })
+    subst (λ x. Keeps code (instr.Call number) old x) (sym e) (record { small = tt; height = refl; frames = λ h. ((inner, begins), (h.0, h.1)) })

@@ -369,7 +369,7 @@ module _ (code : Code) (count me : ℕ) (e : Execution) (holds : Holds code e) w
       let short = holds.short e.frame.function in
       let near = near_is x.instr (it_names x is) in
       let size : frame_words_by (slice_get code.functions e.frame.function) ≡ f.frame_words = ap frame_words_by at.here.here in
-      let fits = holds.frames.0 in
+      let fits = holds.frames.0.0 in
       record {
         some = w.0;
         words = w.1;

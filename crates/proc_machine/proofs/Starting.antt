@@ -10,6 +10,7 @@ use Rattle.stack_code.specs.Machine.{Control, run_code, started_by, first_data, 
 use Rattle.stack_code.specs.Valid.{IsSound, is_within}
 use Rattle.stack_code.specs.declared.code.FunctionFrame.{FunctionFrame}
 use Rattle.stack_code.specs.Frame.{frame_of}
+use Rattle.stack_code.specs.Together.{start_of}
 use Rattle.proc_machine.specs.declared.callers.Caller.{Caller as KeptCaller}
 use Rattle.proc_machine.specs.declared.execution.Execution.{Execution}
 use Rattle.proc_machine.specs.View.{callers_of, frames_in, control_of, data_with, CallersFit, frame_words_by}
@@ -66,7 +67,7 @@ module _ (code : Code) (e : Execution) (fresh : IsFresh code e) (words : List �
           sound = sound;
           within = within;
           control = subst (λ (c : Control). IsSoundAt code c) (sym control_is) at_main;
-          frames = (omega (arith, base, size, fits), subst (λ (k : List KeptCaller). CallersFit code k) (sym fresh.callers) tt);
+          frames = ((omega (arith, base, size, fits), fresh.start ∙ ap (start_of code) (sym fresh.function)), subst (λ (k : List KeptCaller). CallersFit code k) (sym fresh.callers) tt);
           room = fresh.room;
           short = fresh.short;
         }

@@ -11,7 +11,9 @@ use Rattle.stack_code.specs.Code.{Placed, Code, steps_of}
 use Rattle.stack_code.specs.Forward.{Advance, Ahead, AtLine, Back}
 use Rattle.stack_code.specs.Valid.{finds, follows}
 use Rattle.stack_code.specs.Machine.{Caller, Control, act, act_if_any, shown, step}
+use Rattle.stack_code.specs.Together.{all_steps, start_of}
 use Rattle.stack_code.proofs.Forward.{step_advances}
+use Rattle.stack_code.proofs.Together.{start_within, fetched}
 use Rattle.proc_machine.specs.declared.callers.Caller.{Caller as KeptCaller}
 use Rattle.proc_machine.specs.declared.execution.Execution.{Execution}
 use Rattle.proc_machine.specs.declared.pause.Pause.{Pause}
@@ -21,7 +23,7 @@ use Rattle.proc_machine.specs.Pauses.{pause_by}
 use Rattle.proc_machine.specs.View.{callers_of, control_of, data_with, Pauses, Keeps, Moves, IsLast, waits}
 use Rattle.proc_machine.specs.Sound.{Holds}
 use Rattle.proc_machine.specs.Ready.{IsReady}
-use Rattle.proc_machine.specs.Run.{IsLastThere, StandsBefore, waits_at, is_line, is_line_at, way, GoesOn, Steps}
+use Rattle.proc_machine.specs.Run.{IsLastThere, StandsBefore, waits_at, is_line, is_line_at, way, GoesOn, Steps, instr_at}
 use Rattle.proc_machine.proofs.Advancing.{act_sound}
 use Rattle.proc_machine.proofs.Readiness.{there, is_there, ready, it_follows, params_are}
 
@@ -49,6 +51,23 @@ module _ (code : Code) (count me : ℕ) (e : Execution) (i : Instr) where
 
 pub within_by : (code : Code) (e : Execution) → ∥ Holds code e ∥₁ → e.frame.place < length (steps_of code e.frame.function)
 within_by code e h = ∥∥₁_elim h (hlevel props) (λ k. is_there code 0 0 e k)
+
+-- ---- the instruction, among those of all functions
+
+pub start_is : (code : Code) (e : Execution) → ∥ Holds code e ∥₁ → e.frame.start ≡ start_of code e.frame.function
+start_is code e h = ∥∥₁_elim h (hlevel props) (λ k. k.frames.0.1)
+
+pub index_within : (code : Code) (e : Execution) → ∥ Holds code e ∥₁ → e.frame.start + e.frame.place < length (all_steps code)
+index_within code e h =
+    let at = start_is code e h in
+    let within = start_within code.functions e.frame.function e.frame.place (within_by code e h) in
+    omega (arith, at, within)
+
+pub fetched_is : (code : Code) (e : Execution) (i : Instr) → ∥ Holds code e ∥₁ → option_map (λ (x : Placed). x.instr) (slice_get (all_steps code) (e.frame.start + e.frame.place)) ≡ Some i → instr_at code e ≡ Some i
+fetched_is code e i h is =
+    ap (option_map (λ (x : Placed). x.instr)) (sym (fetched code.functions e.frame.function e.frame.place (within_by code e h)))
+    ∙ ap (λ n. option_map (λ (x : Placed). x.instr) (slice_get (all_steps code) (n + e.frame.place))) (sym (start_is code e h))
+    ∙ is
 
 -- ---- what is shown
 

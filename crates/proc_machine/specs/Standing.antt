@@ -6,6 +6,7 @@ use Rattle.nm_base.specs.Message.{Message}
 use Rattle.c_tree.specs.State.{State, Able, Over, Outcome, Done, Stopped}
 use Rattle.stack_code.specs.Code.{FunctionCode, Code, steps_of}
 use Rattle.stack_code.specs.Machine.{Control, filled, blocks_of, run_code}
+use Rattle.stack_code.specs.Together.{start_of}
 use Rattle.proc_machine.specs.declared.execution.Execution.{Execution}
 use Rattle.proc_machine.specs.declared.pause.Pause.{Pause}
 use Rattle.proc_machine.specs.declared.pause.Pause.TheVariants as pause
@@ -17,6 +18,7 @@ use Rattle.proc_machine.specs.Run.{StandsBefore}
 -- before main is called
 pub record IsFresh (code : Code) (e : Execution) : Type 0 where
   pub function : e.frame.function ≡ code.main
+  pub start : e.frame.start ≡ start_of code code.main
   pub place : e.frame.place ≡ 0
   pub line : option_map (λ (f : FunctionCode). f.line) (slice_get code.functions code.main) ≡ Some e.frame.line
   pub base : e.frame.base ≡ length code.globals

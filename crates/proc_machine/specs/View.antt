@@ -13,6 +13,7 @@ use Rattle.stack_code.specs.declared.instr.Instr.{Instr}
 use Rattle.stack_code.specs.declared.instr.Instr.TheVariants as instr
 use Rattle.stack_code.specs.Code.{FunctionCode, Code}
 use Rattle.stack_code.specs.Machine.{Caller, Control, act}
+use Rattle.stack_code.specs.Together.{start_of}
 use Rattle.proc_machine.specs.declared.callers.Frame.{Frame as KeptFrame}
 use Rattle.proc_machine.specs.declared.callers.Caller.{Caller as KeptCaller}
 use Rattle.proc_machine.specs.declared.execution.Execution.{Execution}
@@ -73,9 +74,9 @@ abbrev pub frame_words_by : Option FunctionCode → ℕ
 frame_words_by None = 0
 frame_words_by (Some f) = f.frame_words
 
--- its words are within the limit
+-- its words are within the limit, and its function's code begins where it says
 abbrev pub FrameFits : Code → KeptFrame → Type 0
-FrameFits code f = f.base + frame_words_by (slice_get code.functions f.function) ≤ 65536
+FrameFits code f = (f.base + frame_words_by (slice_get code.functions f.function) ≤ 65536) × (f.start ≡ start_of code f.function)
 
 abbrev pub CallersFit : Code → List KeptCaller → Type 0
 CallersFit code [] = Unit {0}
@@ -139,9 +140,9 @@ given taken (Ok v) e = onward e (v ∷ drop taken e.calls.own)
 given taken (Err cause) e = e
 
 -- a call's frame is made: the operands for its parameters are its first words
-abbrev pub opened : ℕ → FunctionFrame → Execution → Execution
-opened number f e = record e {
-  frame = record { function = number; place = 0; line = f.line; base = length e.words };
+abbrev pub opened : ℕ → ℕ → FunctionFrame → Execution → Execution
+opened number start f e = record e {
+  frame = record { function = number; start = start; place = 0; line = f.line; base = length e.words };
   calls = record e.calls {
     own = [];
     outer = drop f.param_words e.calls.own ++ e.calls.outer;

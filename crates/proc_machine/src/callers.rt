@@ -13,6 +13,8 @@ pub(crate) const CALLERS_LIMIT: usize = 255;
 #[derive(Clone, Copy, Debug, PartialEq, Eq)]
 pub(crate) struct Frame {
     pub function: u32,
+    /// Where the function's instructions begin among those of all functions.
+    pub start: u32,
     /// The next instruction; of a caller its Call.
     pub place: u32,
     /// The line of its last Line event, before the first that of the function's name.

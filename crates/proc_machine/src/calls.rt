@@ -40,19 +40,19 @@ impl Execution {
                 cause: FaultCause::DataFull,
             });
         }
-        self.open_frame(function, frame);
+        self.open_frame(function, at.code.start(function), frame);
         None
     }
 
     /// Makes the frame of a call, where there is room for it.
-    fn open_frame(&mut self, function: u32, frame: FunctionFrame)
+    fn open_frame(&mut self, function: u32, start: u32, frame: FunctionFrame)
         requires few { frame.param_words ≤ length self.old.calls.own }
         requires words { (j : ℕ) → j < frame.param_words → slice_index self.old.calls.own j < 2 ^ 32 }
         requires height { length self.old.calls.own < self.old.calls.height }
         requires depth { length self.old.calls.callers < 255 }
         requires room { length self.old.words + frame.frame_words ≤ 65536 }
         requires further { self.old.frame.place + 1 < 2 ^ 32 }
-        ensures { self.new ≡ opened function frame self.old }
+        ensures { self.new ≡ opened function start frame self.old }
     {
         let base = self.words.len() as u32;
         let params = frame.param_words as usize;
@@ -61,6 +61,7 @@ impl Execution {
         self.calls.enter(self.frame);
         self.frame = Frame {
             function,
+            start,
             place: 0,
             line: frame.line,
             base,

@@ -24,7 +24,7 @@ impl Execution {
         requires waits { IsTrue (waits_at (slice_get (steps_of (code_of at.code.now) self.now.frame.function) self.now.frame.place) pause.Send) }
         ensures { instr_at (code_of at.entry.code.now) self.now ≡ Some (instr.Send result) }
     {
-        match at.code.instr(self.frame.function, self.frame.place) {
+        match self.next_instr(at) {
             Instr::Send(words) => words,
             _ => unreachable!(),
         }
@@ -36,7 +36,7 @@ impl Execution {
         requires waits { IsTrue (waits_at (slice_get (steps_of (code_of at.code.now) self.now.frame.function) self.now.frame.place) pause.Print) }
         ensures { instr_at (code_of at.entry.code.now) self.now ≡ Some (instr.Print result) }
     {
-        match at.code.instr(self.frame.function, self.frame.place) {
+        match self.next_instr(at) {
             Instr::Print(text) => text,
             _ => unreachable!(),
         }

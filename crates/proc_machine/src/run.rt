@@ -1,22 +1,32 @@
 //! Running on to the next event.
 
-ghost use Rattle.std.specs.Prelude.{◌≡◌, ℕ, List};
+ghost use Rattle.std.specs.Prelude.{◌≡◌, ℕ, List, Some};
 ghost use Rattle.nm_base.specs.declared.kind.Kind.{Kind};
 ghost use Rattle.stack_code.specs.View.{code_of};
 ghost use Rattle.proc_machine.specs.Sound.{Holds};
-ghost use Rattle.proc_machine.specs.Run.{Steps, RunsOn, StandsBefore};
+ghost use Rattle.proc_machine.specs.Run.{Steps, RunsOn, StandsBefore, instr_at};
 
 use crate::execution::{Execution, Setting};
 use crate::pause::Pause;
+use stack_code::Instr;
 
 impl Execution {
+    /// The instruction at which it stands, by one index into the code.
+    pub(crate) fn next_instr(&self, at: Setting<'_>) -> Instr
+        requires { ∥ Holds (code_of at.code.now) self.now ∥₁ }
+        ensures { instr_at (code_of at.entry.code.now) self.now ≡ Some result }
+    {
+        at.code
+            .fetch(self.frame.start as usize + self.frame.place as usize)
+    }
+
     /// Does the next instruction.
     fn step(&mut self, at: Setting<'_>) -> Option<Pause>
         requires { ∥ Holds (code_of at.code.now) self.old ∥₁ }
         ensures holds { ∥ Holds (code_of at.entry.code.now) self.new ∥₁ }
         ensures steps { Steps (code_of at.entry.code.now) at.entry.count at.entry.me.no self.old self.new result }
     {
-        let instr = at.code.instr(self.frame.function, self.frame.place);
+        let instr = self.next_instr(at);
         self.execute(at, instr)
     }
 

@@ -32,6 +32,7 @@ impl Execution {
         Ok(Execution {
             frame: Frame {
                 function: code.main(),
+                start: code.start(code.main()),
                 place: 0,
                 line: code.main_line(),
                 base: words.len() as u32,

@@ -4,5 +4,6 @@ pub mod Law
 pub mod Forward
 pub mod Seeks
 pub mod Tables
-pub mod Founds
-pub mod Fetched
+pub mod Together
+pub mod Laid
+pub mod Laying

@@ -3,6 +3,8 @@ pub mod Machine
 pub mod Law
 pub mod Forward
 pub mod Blocks
+pub mod Layout
+pub mod Together
 pub mod Valid
 pub mod Seek
 pub mod View

@@ -1,11 +1,11 @@
 -- What a name denotes at a place of the code.
-use Rattle.std.specs.Prelude.{ℕ, ◌<◌, Bool, true, false, List, [], ◌∷◌, length, Option, Some, None, option_map, slice_get, if◌then◌else◌}
+use Rattle.std.specs.Prelude.{ℕ, ◌<◌, Bool, true, false, List, [], ◌∷◌, length, Option, Some, None, option_map, take, slice_get, if◌then◌else◌}
 use Rattle.std.specs.Str.{bytes_eq}
 use Rattle.stack_code.specs.declared.code.Variable.{Variable}
 use Rattle.stack_code.specs.declared.seek.CodePlace.{CodePlace}
 use Rattle.stack_code.specs.declared.seek.Found.{Found}
 use Rattle.stack_code.specs.declared.seek.Home.TheVariants.{Global, Local, ArrayParam}
-use Rattle.stack_code.specs.Code.{FunctionCode, Code, entered_by, params_of, steps_of}
+use Rattle.stack_code.specs.Code.{FunctionCode, Code, entered_by, steps_of}
 
 -- the first of these with the name
 abbrev pub first_named : List ℕ → List Variable → Option Variable
@@ -37,10 +37,13 @@ abbrev pub or_else : Option Found → Option Found → Option Found
 or_else None b = b
 or_else (Some x) b = Some x
 
+-- in these blocks, and then among the parameters, which are so many of the slots
+abbrev pub found_among : List Variable → ℕ → List (List ℕ) → List ℕ → Option Found
+found_among slots params blocks name = or_else (option_map as_local (in_blocks name slots blocks)) (option_map as_local (first_named name (take params slots)))
+
 -- in the blocks that are entered there, and then among the parameters
 abbrev pub found_in : FunctionCode → ℕ → List ℕ → Option Found
-found_in f place name =
-    or_else (option_map as_local (in_blocks name f.slots (entered_by (slice_get f.steps place)))) (option_map as_local (first_named name (params_of f)))
+found_in f place name = found_among f.slots f.param_count (entered_by (slice_get f.steps place)) name
 
 abbrev pub found_by : Option FunctionCode → ℕ → List ℕ → Option Found
 found_by None place name = None

@@ -3,11 +3,14 @@
 ghost use Rattle.std.specs.Prelude.{IsTrue};
 ghost use Rattle.std.specs.List.{list_all};
 ghost use Rattle.stack_code.specs.Blocks.{view_of, is_kept};
+ghost use Rattle.stack_code.specs.Layout.{laid_view, is_laid_out};
 ghost use Rattle.stack_code.specs.Valid.{IsSound, is_within};
 
 use crate::instr::Instr;
-use crate::seek::{CodePlace, Found, global_found, local_found, local_named, named};
-use nm_base::{Bytes, Ctype, List};
+use crate::layout::Layout;
+use crate::seek::{CodePlace, Found, global_found, named};
+use nm_base::{Bytes, Ctype, List, WantOfMemory};
+use std::alloc::Global;
 
 /// What the call of a function needs to know of it.
 #[derive(Clone, Copy, Debug, PartialEq, Eq)]
@@ -38,7 +41,7 @@ pub struct Variable {
     pub place: u32,
 }
 
-/// The code of one function.
+/// A function with its code, from which `Code::new` makes code.
 #[derive(Drop)]
 pub struct CodeFunction {
     pub name: String,
@@ -58,54 +61,59 @@ pub struct CodeFunction {
 
 /// Code that a machine can run without a test of its own: jumps lead to instructions of their
 /// function, a jump back leads to a Line, every function begins with one, and whatever way control
-/// takes, each instruction finds the operands that it takes.
+/// takes, each instruction finds the operands that it takes. The instructions of all functions stand
+/// in one list.
 #[derive(Drop)]
 pub struct Code {
-    pub(crate) functions: Vec<CodeFunction>,
+    pub(crate) layout: Layout,
     pub(crate) main: u32,
     pub(crate) texts: List<Bytes>,
     /// Their first words.
     pub(crate) globals: Vec<u32>,
     pub(crate) variables: Vec<Variable>,
-    pub ghost sound: { ∥ IsSound (view_of functions.items main texts globals.items variables.items) ∥₁ },
-    pub ghost within: { IsTrue (is_within (view_of functions.items main texts globals.items variables.items)) },
-    pub ghost kept: { IsTrue (list_all is_kept functions.items) },
+    pub ghost sound: { ∥ IsSound (laid_view layout main texts globals.items variables.items) ∥₁ },
+    pub ghost within: { IsTrue (is_within (laid_view layout main texts globals.items variables.items)) },
+    pub ghost laid: { IsTrue (is_laid_out layout.functions.items layout.instrs.items layout.inside.items) },
 }
 
 impl Code {
-    ghost use Rattle.std.specs.Prelude.{◌≡◌, ℕ, ◌<◌, ◌≤◌, length, map, Some, slice_get, string_bytes, option_map};
+    ghost use Rattle.std.specs.Prelude.{◌≡◌, ℕ, ◌<◌, ◌≤◌, length, Some, slice_get, option_map, IfOk};
     ghost use Rattle.stack_code.specs.View.{code_of};
     ghost use Rattle.stack_code.specs.Seek.{found, found_at, found_global, IsPlaceIn};
     ghost use Rattle.stack_code.specs.Code.{steps_of};
+    ghost use Rattle.stack_code.specs.Together.{all_steps, start_of};
     ghost use Rattle.stack_code.specs.Frame.{frame_of};
 
-    /// Keeps its parts, which must be valid.
+    /// Lays the functions' code out, one behind the other, and keeps the other parts. All must be
+    /// valid. `WantOfMemory` also answers more than 4,294,967,295 instructions in all.
     pub fn new(
+        alloc: Global,
         functions: Vec<CodeFunction>,
         main: u32,
         texts: List<Bytes>,
         globals: Vec<u32>,
         variables: Vec<Variable>,
-    ) -> Code
+    ) -> Result<Code, WantOfMemory>
         requires sound { ∥ IsSound (view_of functions.items main texts globals.items variables.items) ∥₁ }
         requires within { IsTrue (is_within (view_of functions.items main texts globals.items variables.items)) }
         requires kept { IsTrue (list_all is_kept functions.items) }
-        ensures { code_of result ≡ view_of functions.items main texts globals.items variables.items }
+        ensures { IfOk result (λ code. code_of code ≡ view_of functions.items main texts globals.items variables.items) }
     {
-        Code {
-            functions,
+        let layout = Layout::of(alloc, functions)?;
+        Ok(Code {
+            layout,
             main,
             texts,
             globals,
             variables,
-        }
+        })
     }
 
     /// The number of functions.
     pub fn functions(&self) -> u32
         ensures { result ≡ length (code_of self.now).functions }
     {
-        self.functions.len() as u32
+        self.layout.functions.len() as u32
     }
 
     /// The name of a function; `i` is below `functions`.
@@ -113,14 +121,14 @@ impl Code {
         requires { i < length (code_of self.now).functions }
         ensures { option_map (λ f. f.name) (slice_get (code_of self.now).functions i) ≡ Some result.now }
     {
-        self.functions[i as usize].name.as_str()
+        self.layout.functions[i as usize].name.as_str()
     }
 
     /// The line of `main`'s name.
     pub fn main_line(&self) -> u32
         ensures { option_map (λ f. f.line) (slice_get (code_of self.now).functions (code_of self.now).main) ≡ Some result }
     {
-        self.functions[self.main as usize].line
+        self.layout.functions[self.main as usize].line
     }
 
     /// The number of `main`.
@@ -150,7 +158,7 @@ impl Code {
         requires { i < length (code_of self.now).functions }
         ensures { option_map frame_of (slice_get (code_of self.now).functions i) ≡ Some result }
     {
-        let function = &self.functions[i as usize];
+        let function = &self.layout.functions[i as usize];
         FunctionFrame {
             line: function.line,
             param_words: function.param_words,
@@ -158,12 +166,29 @@ impl Code {
         }
     }
 
+    /// Where the instructions of a function begin among those of all functions; `function` is below
+    /// `functions`.
+    pub fn start(&self, function: u32) -> u32
+        requires { function < length (code_of self.now).functions }
+        ensures { result ≡ start_of (code_of self.now) function }
+    {
+        self.layout.functions[function as usize].start
+    }
+
+    /// An instruction by its place among those of all functions; there is one at that place.
+    pub fn fetch(&self, place: usize) -> Instr
+        requires { place < length (all_steps (code_of self.now)) }
+        ensures { option_map (λ x. x.instr) (slice_get (all_steps (code_of self.now)) place) ≡ Some result }
+    {
+        self.layout.instrs[place]
+    }
+
     /// An instruction of a function; there is one at that place.
     pub fn instr(&self, function: u32, place: u32) -> Instr
         requires { place < length (steps_of (code_of self.now) function) }
         ensures { option_map (λ x. x.instr) (slice_get (steps_of (code_of self.now) function) place) ≡ Some result }
     {
-        self.functions[function as usize].instrs[place as usize]
+        self.fetch(self.start(function) as usize + place as usize)
     }
 
     /// How many instructions a function has; `function` is below `functions`.
@@ -171,7 +196,7 @@ impl Code {
         requires { function < length (code_of self.now).functions }
         ensures { result ≡ length (steps_of (code_of self.now) function) }
     {
-        self.functions[function as usize].instrs.len()
+        self.layout.functions[function as usize].len as usize
     }
 
     /// At least as many as any function has instructions.
@@ -179,13 +204,10 @@ impl Code {
         ensures { (f : ℕ) → length (steps_of (code_of self.now) f) ≤ result }
     {
         let mut longest = 0;
-        for function in &self.functions {
-            let len = function.instrs.len();
-            if longest < len {
-                longest = len;
-            }
+        for function in &self.layout.functions {
+            longest = function.len.max(longest);
         }
-        longest
+        longest as usize
     }
 
     /// What a name denotes. With a place it looks in the blocks of that function that are entered at
@@ -206,7 +228,11 @@ impl Code {
         ensures { result ≡ found_at (code_of self.now) at name.now }
     {
         match at {
-            Some(at) => self.functions[at.function as usize].seek(at.place, name),
+            Some(at) => {
+                let function = &self.layout.functions[at.function as usize];
+                let place = function.start as usize + at.place as usize;
+                function.seek(self.layout.inside[place], name)
+            }
             None => None,
         }
     }
@@ -218,45 +244,5 @@ impl Code {
             Some(variable) => Some(global_found(variable)),
             None => None,
         }
-    }
-}
-
-impl CodeFunction {
-    ghost use Rattle.std.specs.Prelude.{◌≡◌, ◌<◌, ◌≤◌, length};
-    ghost use Rattle.std.specs.Option.{option_copied};
-    ghost use Rattle.stack_code.specs.Blocks.{function_of, entered_in, table_of, blocks_nest};
-    ghost use Rattle.stack_code.specs.Seek.{found_in, in_blocks};
-
-    /// What a name denotes in the function at an instruction.
-    fn seek(&self, place: u32, name: &[u8]) -> Option<Found>
-        requires kept { IsTrue (is_kept self.now) }
-        requires few { self.now.param_count ≤ length self.now.slots.items }
-        requires within { place < length self.now.instrs.items }
-        ensures { result ≡ found_in (function_of self.now) place name.now }
-    {
-        if let Some(local) = self.local_at(self.inside[place as usize], name) {
-            return Some(local_found(local));
-        }
-        match named(&self.slots.as_slice()[..self.param_count as usize], name) {
-            Some(param) => Some(local_found(param)),
-            None => None,
-        }
-    }
-
-    /// The local of that name in a block and those round it, from the innermost.
-    fn local_at(&self, block: u32, name: &[u8]) -> Option<&Variable>
-        requires nest { IsTrue (blocks_nest 0 self.now.blocks.items) }
-        requires known { block ≤ length self.now.blocks.items }
-        ensures { option_copied result ≡ in_blocks name.now self.now.slots.items (entered_in (table_of self.now.blocks.items) block) }
-    {
-        let mut number = block;
-        while number > 0 {
-            let block = &self.blocks[number as usize - 1];
-            if let Some(local) = local_named(self.slots.as_slice(), block.slots.as_slice(), name) {
-                return Some(local);
-            }
-            number = block.outer;
-        }
-        None
     }
 }

@@ -6,6 +6,7 @@ ghost use Rattle.stack_code.specs.Law.{Law};
 
 mod code;
 mod instr;
+mod layout;
 mod seek;
 
 pub use code::{Block, Code, CodeFunction, FunctionFrame, Variable};

@@ -39,10 +39,10 @@ returns c =
     let copies = c.in_ok-texts.ensures ∙ c.as_slice-3.ensures in
     let words = c.in_ok-words.ensures ∙ ap first_words c.as_slice-4.ensures in
     let variables = c.in_ok-variables.ensures ∙ ap (globals_from 0) c.as_slice.ensures in
-    let same = c.new-code.ensures ∙ view_is p.globals p.functions p.texts p.main c.in_ok-functions.functions.items c.in_ok-texts.texts c.in_ok-words.words.items c.in_ok-variables.variables.items
+    let same = c.in_ok-code.ensures ∙ view_is p.globals p.functions p.texts p.main c.in_ok-functions.functions.items c.in_ok-texts.texts c.in_ok-words.words.items c.in_ok-variables.variables.items
     c.in_ok-functions.ensures.code copies words variables in
     record {
       code = same;
-      stands = stands_by p.globals p.functions p.texts p.main (code_of c.new-code.result) p.checked same;
-      names = tells_names p (code_of c.new-code.result) same;
+      stands = stands_by p.globals p.functions p.texts p.main (code_of c.in_ok-code.code) p.checked same;
+      names = tells_names p (code_of c.in_ok-code.code) same;
     }

@@ -26,10 +26,10 @@ returns c =
     let low = is_low e (omega (arith, c.if-callers-ge256.false, c.callers.ensures.same)) in
     let space = has_space e f.frame_words (omega (arith, c.if-len-frame-gt-WORDS_LIMIT.false, c.len.ensures.same)) in
     let few : f.param_words ≤ length e.calls.own = omega (arith, c.requires.some, params_are _ f c.frame-frame.ensures) in (
-      λ events. called_goes e c.args.function f _ c.frame-frame.ensures low space few events
+      λ events. called_goes e c.args.function f c.start.result _ c.frame-frame.ensures low space few events
           ∙ ap (λ x. Done (control_of x) (data_with x events 0)) (sym c.open_frame.ensures),
       call_keeps
-          (code_of c.args.at.code.now) c.args.function f e c.open_frame.new.self c.open_frame.ensures c.frame-frame.ensures (omega (arith, c.if-len-frame-gt-WORDS_LIMIT.false, c.len.ensures.same)),
+          (code_of c.args.at.code.now) c.args.function c.start.result f e c.open_frame.new.self c.start.ensures c.open_frame.ensures c.frame-frame.ensures (omega (arith, c.if-len-frame-gt-WORDS_LIMIT.false, c.len.ensures.same)),
       ap
           (λ x. x.sent) c.open_frame.ensures,
     )

@@ -1,27 +1,28 @@
-use Rattle.std.proofs.Common.{IsTrue, arith}
-use Rattle.std.specs.List.{list_all}
-use Rattle.stack_code.specs.Blocks.{is_kept}
-use Rattle.stack_code.proofs.Fetched.{has_function, place_within, instr_read}
+use Rattle.std.proofs.Common.{◌+◌, sym, ap, ◌∙◌, arith}
+use Rattle.std.proofs.lemmas.List.{length-map}
+use Rattle.std.specs.Prelude.{option_map, slice_get}
+use Rattle.stack_code.specs.Code.{Placed}
+use Rattle.stack_code.specs.Layout.{laid_function_of, functions_in}
+use Rattle.stack_code.specs.Together.{all_steps}
+use Rattle.stack_code.specs.View.{code_of}
+use Rattle.stack_code.proofs.Laid.{has_function}
+use Rattle.stack_code.proofs.Together.{start_within, fetched}
 use Rattle.stack_code.proofs.code.Code.instr.Goals as goal
 
-pub index-requires : goal.index-requires
-index-requires c =
-    let code = c.args.self.now in
-    let lt = has_function code.functions.items code.main code.texts code.globals.items code.variables.items c.args.function c.args.place c.requires in
-    omega (arith, lt, code.functions.ok.0)
+pub start-requires : goal.start-requires
+start-requires c =
+    let l = c.args.self.now.layout in
+    let lt = has_function l.functions.items l.instrs.items l.inside.items c.args.self.now.laid c.args.function c.args.place c.requires in
+    omega (arith, lt, length-map l.functions.items (laid_function_of l.instrs.items l.inside.items))
 
-pub index-requires-2 : goal.index-requires-2
-index-requires-2 c =
-    let code = c.args.self.now in
-    let kept : IsTrue (list_all is_kept code.functions.items) = code.kept in
-    let lt = has_function code.functions.items code.main code.texts code.globals.items code.variables.items c.args.function c.args.place c.requires in
-    let within = place_within code.functions.items code.main code.texts code.globals.items code.variables.items c.args.function c.index.result.now lt c.index.ensures c.args.place kept c.requires in
-    omega (arith, within, c.index.result.now.instrs.ok.0)
+pub fetch-requires : goal.fetch-requires
+fetch-requires c =
+    let within = start_within (functions_in c.args.self.now.layout) c.args.function c.args.place c.requires in
+    omega (arith, within, c.start.ensures)
 
 pub returns : goal.returns
 returns c =
-    let code = c.args.self.now in
-    let kept : IsTrue (list_all is_kept code.functions.items) = code.kept in
-    let lt = has_function code.functions.items code.main code.texts code.globals.items code.variables.items c.args.function c.args.place c.requires in
-    let within = place_within code.functions.items code.main code.texts code.globals.items code.variables.items c.args.function c.index.result.now lt c.index.ensures c.args.place kept c.requires in
-    instr_read code.functions.items code.main code.texts code.globals.items code.variables.items c.args.function c.index.result.now lt c.index.ensures c.args.place c.index-2.result.now kept within c.index-2.ensures
+    let fs = functions_in c.args.self.now.layout in
+    ap (λ o. option_map (λ (x : Placed). x.instr) o) (sym (fetched fs c.args.function c.args.place c.requires))
+    ∙ ap (λ n. option_map (λ (x : Placed). x.instr) (slice_get (all_steps (code_of c.args.self.now)) (n + c.args.place))) (sym c.start.ensures)
+    ∙ c.fetch.ensures

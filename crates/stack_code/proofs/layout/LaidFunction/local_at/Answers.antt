@@ -3,7 +3,7 @@ use Rattle.stack_code.specs.Blocks.{entered_in, table_of}
 use Rattle.stack_code.specs.Seek.{in_block, in_blocks}
 use Rattle.stack_code.proofs.Seeks.{blocks_found, blocks_later}
 use Rattle.stack_code.proofs.Tables.{table_entry_at, none_outside}
-use Rattle.stack_code.proofs.code.CodeFunction.local_at.Goals as goal
+use Rattle.stack_code.proofs.layout.LaidFunction.local_at.Goals as goal
 
 pub returns-in-Some : goal.returns-in-Some
 returns-in-Some c =

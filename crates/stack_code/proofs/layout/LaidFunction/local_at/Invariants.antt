@@ -1,7 +1,7 @@
 use Rattle.std.proofs.Common.{◌≡◌, ◌≤◌, length}
 use Rattle.stack_code.specs.Blocks.{entered_in, table_of}
 use Rattle.stack_code.specs.Seek.{in_blocks}
-use Rattle.stack_code.proofs.code.CodeFunction.local_at.Given as goal
+use Rattle.stack_code.proofs.layout.LaidFunction.local_at.Given as goal
 
 abbrev pub invariant-loop-number : goal.invariant-loop-number
 invariant-loop-number l =
