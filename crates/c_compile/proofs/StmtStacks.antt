@@ -21,13 +21,13 @@ use Rattle.c_compile.specs.Asm.{end_of, ◌⨾◌}
 use Rattle.c_compile.specs.ExprCode.{Shape, expr_code}
 use Rattle.c_compile.specs.StmtCode as code_of
 use Rattle.c_compile.specs.StmtCode.{Exits, Blocks, StmtCode, ArmCode, put, value_code, test_code, effect_code, zeros, zero_by, start_by, starts, sequence_code, block_code, else_code, else_ends}
-use Rattle.c_compile.specs.StmtCode.{if_code, while_code, do_code, for_code, switch_code, case_code, cases_code, arms_cases, arms_code, arms_ends, place_of_label, test_ends, effect_ends}
+use Rattle.c_compile.specs.StmtCode.{if_code, while_code, do_code, for_code, switch_code, case_code, cases_code, arms_cases, arms_code, arms_ends, place_of_label, test_ends}
 use Rattle.c_compile.proofs.Lies.{LiesAt, split_at, end_at, in_block_at}
 use Rattle.c_compile.proofs.Lengths as lengths
 use Rattle.c_compile.proofs.ForPlaces.{for_at, for_laid}
 use Rattle.c_compile.proofs.Parts.{both_true}
 use Rattle.c_compile.proofs.Finds as finds
-use Rattle.c_compile.proofs.Finds.{Finds, Leads}
+use Rattle.c_compile.proofs.Finds.{Finds}
 use Rattle.c_compile.proofs.ExprStacks as exprs
 use Rattle.c_compile.proofs.ExprStacks.{Knows}
 
