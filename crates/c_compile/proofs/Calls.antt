@@ -11,21 +11,21 @@ use Rattle.c_tree.specs.State.{State, Outcome, Done, Stopped, Run, then_on, ◌>
 use Rattle.c_tree.specs.Storage.{words_of, words_of_slot}
 use Rattle.c_tree.specs.Print.{printed}
 use Rattle.c_tree.specs.Expr as meaning
-use Rattle.c_tree.specs.Expr.{Context, Part, Typed, arguments, call_own_by, frame_words, slots_of, leave, make_frame, receive, word_of, of_letter, send_words, print}
+use Rattle.c_tree.specs.Expr.{Context, Typed, arguments, call_own_by, frame_words, slots_of, leave, receive, word_of, of_letter, send_words, print}
 use Rattle.stack_code.specs.declared.instr.Instr.{Instr}
 use Rattle.stack_code.specs.declared.instr.Instr.TheVariants as instr
 use Rattle.stack_code.specs.Code.{Placed, Code, steps_of, steps_by, entered_by}
 use Rattle.stack_code.specs.Machine as machine
-use Rattle.stack_code.specs.Machine.{Caller, Control, popped, filled, outer_blocks, open_frame, push, conversions, text_at}
+use Rattle.stack_code.specs.Machine.{Caller, Control, popped, filled, outer_blocks, open_frame, conversions, text_at}
 use Rattle.stack_code.proofs.Blind.{Blocks, Blind, pure_blind, of_letter_blind, word_of_blind, receive_blind, send_words_blind, print_blind, open_frame_moves}
 use Rattle.stack_code.proofs.Gives.{Gives, Stands, comes_gives, gives_here, part_then, act_gives, line_then}
 use Rattle.c_compile.specs.Asm.{Asm, one, ◌⨾◌, end_of}
 use Rattle.c_compile.specs.Variables.{slots_from}
 use Rattle.c_compile.specs.ExprCode as code_of
-use Rattle.c_compile.specs.ExprCode.{Shape, ExprCode, TypedCode, argument_code, width_of, all_fit}
+use Rattle.c_compile.specs.ExprCode.{Shape, TypedCode, argument_code, width_of, all_fit}
 use Rattle.c_compile.proofs.Lies.{BlockAt, block_split}
 use Rattle.c_compile.proofs.Parts as parts
-use Rattle.c_compile.proofs.Parts.{both_true, pushed, pushed_append, popped_all, HasWidth, Runs, TypedRuns, PartRuns}
+use Rattle.c_compile.proofs.Parts.{both_true, pushed, pushed_append, popped_all, HasWidth, Runs, TypedRuns}
 
 -- the functions that calls lead to
 module _ (code : Code) (cx : Context) (limit : ℕ) where

@@ -25,7 +25,7 @@ use Rattle.c_tree.specs.Storage.{words_of_global, words_of_slot, words_before}
 use Rattle.c_tree.specs.Typing as typing
 use Rattle.c_tree.specs.Typing.{Sort, Void, Array, Text, Wrong, Names, agreed, is_typed, is_value, is_effect, with_type, with_place, where_true, element_of, const_of, comma_of, result_of}
 use Rattle.c_tree.specs.Typing.{sort_of_global, sort_of_slot, sort_of_target, sort_of_call, call_of_function, fit_params, fits_param, all_values, fits_format, fits_printf, fits_built_in}
-use Rattle.c_tree.specs.Typing.{is_count, conversions_from, same_type, sort_step, typed_step, sort_of}
+use Rattle.c_tree.specs.Typing.{is_count, conversions_from, same_type, sort_step, sort_of}
 use Rattle.stack_code.specs.declared.instr.Instr.{Instr}
 use Rattle.stack_code.specs.declared.instr.Instr.TheVariants as instr
 use Rattle.stack_code.specs.Code.{FunctionCode, Code}
@@ -38,7 +38,7 @@ use Rattle.c_compile.proofs.Levels.{code_roll, kind_sort, sort_roll}
 use Rattle.c_compile.proofs.Parts.{both_true}
 use Rattle.c_compile.proofs.Sorts.{and_true}
 use Rattle.c_compile.proofs.Finds as finds
-use Rattle.c_compile.proofs.Finds.{Leads, Steps, pushed_append, taking_pushed}
+use Rattle.c_compile.proofs.Finds.{Leads, pushed_append, taking_pushed}
 
 -- what an argument pushes before others: an array's place and length, or a value
 abbrev pub passed : Bool → List Operand → List Operand

@@ -212,11 +212,6 @@ module _ (globals : List Global) (functions : List Function) (texts : List (List
 
 -- ---- bounds of words
 
-before_all : {A : Type 0} (size : A → ℕ) (xs : List A) (i : ℕ) → words_before size xs i ≤ words_of size xs
-before_all size [] i = omega arith
-before_all size (x ∷ xs) zero = omega arith
-before_all size (x ∷ xs) (suc i) = omega (arith, before_all size xs i)
-
 both_words : (ps ls : List Slot) → words_of words_of_slot (ps ++ ls) ≡ words_of words_of_slot ps + words_of words_of_slot ls
 both_words [] ls = omega arith
 both_words (p ∷ ps) ls = omega (arith, both_words ps ls)
@@ -256,17 +251,3 @@ module _ (globals : List Global) (functions : List Function) (texts : List (List
       let facts = function_facts globals functions texts f h in
       let few = leb-true (length f.params + length f.locals) 256 facts.few_slots in
       omega (arith, both_words f.params f.locals, param_words f.params facts.params, local_words f.locals facts.locals, few)
-
-  pub slot_bound : (i : ℕ) → words_before words_of_slot (slots_of f) i ≤ 16777216
-  slot_bound i = omega (arith, before_all words_of_slot (slots_of f) i, frame_bound)
-
-  pub params_bound : words_of words_of_slot f.params ≤ 62
-  params_bound =
-      let facts = function_facts globals functions texts f h in
-      omega (arith, param_words f.params facts.params, leb-true (length f.params) 31 facts.few_params)
-
-pub global_bound :
-    (globals : List Global) (functions : List Function) (texts : List (List ℕ)) (main i : ℕ) → is_checked globals functions texts main ≡ true → words_before words_of_global globals i ≤ 65536
-global_bound globals functions texts main i h =
-    let facts = program_facts globals functions texts main h in
-    omega (arith, before_all words_of_global globals i, leb-true (words_of words_of_global globals) 65536 facts.few_words)

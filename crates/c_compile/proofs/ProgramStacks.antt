@@ -9,7 +9,7 @@ use Rattle.c_tree.specs.declared.program.Slot.{Slot}
 use Rattle.c_tree.specs.declared.program.Function.{Function}
 use Rattle.c_tree.specs.Typing.{Names}
 use Rattle.c_tree.specs.Checks as check
-use Rattle.c_tree.specs.Checks.{Around, local_fits, in_order, is_block_slot, blocks_fit, check_of, names_of, is_checked}
+use Rattle.c_tree.specs.Checks.{local_fits, in_order, is_block_slot, blocks_fit, check_of, names_of, is_checked}
 use Rattle.c_tree.specs.Play.{Setting}
 use Rattle.stack_code.specs.Code.{FunctionCode, Code}
 use Rattle.stack_code.specs.Valid.{finds, FindsOperands, operands_of, operands_by, is_within, IsSound}
@@ -25,9 +25,7 @@ use Rattle.c_compile.proofs.Checked as checks
 use Rattle.c_compile.proofs.Finds.{Finds}
 use Rattle.c_compile.proofs.ExprStacks.{Knows, param_operands}
 use Rattle.c_compile.proofs.StmtStacks as stacks
-use Rattle.c_compile.proofs.StmtStacks.{is_local}
 use Rattle.c_compile.proofs.TreeStacks as trees
-use Rattle.c_compile.proofs.TreeStacks.{all_local}
 use Rattle.c_compile.proofs.Limits as limits
 
 -- a slot behind the parameters is a local

@@ -21,12 +21,13 @@ use Rattle.c_compile.specs.Asm.{end_of, ◌⨾◌}
 use Rattle.c_compile.specs.ExprCode.{Shape, expr_code}
 use Rattle.c_compile.specs.StmtCode as code_of
 use Rattle.c_compile.specs.StmtCode.{Exits, Blocks, StmtCode, ArmCode, put, value_code, test_code, effect_code, zeros, zero_by, start_by, starts, sequence_code, block_code, else_code, else_ends}
-use Rattle.c_compile.specs.StmtCode.{if_code, while_code, do_code, for_code, switch_code, case_code, cases_code, arms_cases, arms_code, arms_ends, place_of_label, test_ends, effect_ends}
+use Rattle.c_compile.specs.StmtCode.{if_code, while_code, do_code, for_code, switch_code, case_code, cases_code, arms_cases, arms_code, arms_ends, place_of_label, test_ends}
 use Rattle.c_compile.proofs.Lies.{LiesAt, split_at, end_at, in_block_at}
 use Rattle.c_compile.proofs.Lengths as lengths
+use Rattle.c_compile.proofs.ForPlaces.{for_at, for_laid}
 use Rattle.c_compile.proofs.Parts.{both_true}
 use Rattle.c_compile.proofs.Finds as finds
-use Rattle.c_compile.proofs.Finds.{Finds, Leads}
+use Rattle.c_compile.proofs.Finds.{Finds}
 use Rattle.c_compile.proofs.ExprStacks as exprs
 use Rattle.c_compile.proofs.ExprStacks.{Knows}
 
@@ -273,39 +274,16 @@ module _ (code : Code) (f : FunctionCode) (names : Names) (knows : Knows code f 
       (first test third : Option PExpr) (x : StmtCode) (line : ℕ) → StmtPasses x → effect_fits names result first ≡ true → test_fits names result test ≡ true
       → effect_fits names result third ≡ true → Passes (λ exits blocks. for_code sh first test third x line blocks)
   for_passes first test third x line r v1 v2 v3 exits blocks p q n h g b c =
-      let top0 = effect_ends sh first (p + 1) + 1 in
-      let again0 = x.ends (test_ends sh test (top0 + 1)) in
-      let back0 = effect_ends sh third again0 in
-      let exits0 : Exits = record { breaks = back0 + 1; continues = again0 } in
-      let first0 = effect_code sh first blocks in
-      let test0 = test_code sh test (back0 + 1) blocks in
-      let third0 = effect_code sh third blocks in
-      let tail4 = third0 ⨾ put blocks (instr.Jump top0) in
-      let tail3 = x.code exits0 blocks ⨾ tail4 in
-      let tail2 = test0 ⨾ tail3 in
-      let tail1 = put blocks (instr.Jump (top0 + 1)) ⨾ (put blocks (instr.Line line) ⨾ tail2) in
-      let a = end_of first0 (p + 1) in
-      let top = a + 1 in
-      let e = end_of test0 (top + 1) in
-      let again = end_of (x.code exits0 blocks) e in
-      let back = end_of third0 again in
-      let top_is : top ≡ top0 = ap (λ k. k + 1) (lengths.effect_end sh blocks first (p + 1)) in
-      let again_is : again ≡ again0 = r.ends exits0 blocks e ∙ ap x.ends (lengths.test_end sh blocks test (back0 + 1) (top + 1)) ∙ ap (λ k. x.ends (test_ends sh test (k + 1))) top_is in
-      let back_is : back ≡ back0 = lengths.effect_end sh blocks third again ∙ ap (effect_ends sh third) again_is in
-      let s1 = split_at f.steps (first0 (p + 1)) (tail1 a) (p + 1) q h.1 in
-      let s2 = split_at f.steps (test0 (top + 1)) (tail3 e) (top + 1) q s1.1.1.1 in
-      let s3 = split_at f.steps (x.code exits0 blocks e) (tail4 again) e q s2.1 in
-      let s4 = split_at f.steps (third0 again) (put blocks (instr.Jump top0) back) again q s3.1 in
-      let q_is : back0 + 1 ≡ q = ap (λ k. k + 1) (sym back_is) ∙ s4.1.1 in
-      let inside = λ (n : ℕ) (g : It n q []) (later : It n top []).
-      let out = moved q_is g in
-      let turn = finds.jump_at code f n back top0 [] blocks s4.1.0 (moved (sym top_is) later) in
-      let thirds = effect_at third v3 blocks again back n s4.0 turn in
-      let body = r.passes exits0 blocks e again n s3.0 thirds out (moved (sym again_is) thirds) in
-      test_at test v2 (back0 + 1) blocks (top + 1) e n s2.0 body out in
-      let tests = inside n g (round line blocks s1.1.1.0 inside n g) in
-      let over = finds.jump_at code f n a (top0 + 1) [] blocks s1.1.0 (moved (ap (λ k. k + 1) (sym top_is)) tests) in
-      at_line n p line blocks h.0 (effect_at first v1 blocks (p + 1) a n s1.0 over)
+      let w = for_at sh blocks first test third x p q in
+      let l = for_laid sh blocks first test third x f.steps line p q r.ends h in
+      let inside = λ (n : ℕ) (g : It n q []) (later : It n w.top []).
+      let turn = finds.jump_at code f n w.back w.top [] blocks l.back_at later in
+      let thirds = effect_at third v3 blocks w.again w.back n l.third_at turn in
+      let body = r.passes w.exits blocks w.start w.again n l.body_at thirds g thirds in
+      test_at test v2 q blocks (w.top + 1) w.start n l.test_at body g in
+      let tests = inside n g (round line blocks l.top_at inside n g) in
+      let over = finds.jump_at code f n w.over (w.top + 1) [] blocks l.over_at tests in
+      at_line n p line blocks l.line_at (effect_at first v1 blocks (p + 1) w.over n l.first_at over)
 
   pub empty_passes : (line : ℕ) → Passes (λ exits blocks. put blocks (instr.Line line))
   empty_passes line exits blocks p q n h g b c = at_line n p line blocks h.0 (moved h.1 g)

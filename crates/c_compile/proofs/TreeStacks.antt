@@ -13,12 +13,12 @@ use Rattle.stack_code.specs.Code.{Placed, FunctionCode, Code}
 use Rattle.c_compile.specs.Asm.{end_of}
 use Rattle.c_compile.specs.ExprCode.{Shape}
 use Rattle.c_compile.specs.StmtCode as code_of
-use Rattle.c_compile.specs.StmtCode.{Exits, Blocks, StmtCode, ArmCode, put, stmt_code, arm_code}
+use Rattle.c_compile.specs.StmtCode.{Exits, Blocks, StmtCode, ArmCode, stmt_code, arm_code}
 use Rattle.c_compile.proofs.Levels.{stmt_code_roll, arm_code_roll, arm_check, check_roll, arm_check_roll}
 use Rattle.c_compile.proofs.Parts.{both_true}
 use Rattle.c_compile.proofs.ExprStacks.{Knows}
 use Rattle.c_compile.proofs.StmtStacks as stacks
-use Rattle.c_compile.proofs.StmtStacks.{Passes, StmtPasses, AllPass, ArmPasses, AllArms, is_local}
+use Rattle.c_compile.proofs.StmtStacks.{Passes, StmtPasses, AllPass, AllArms, is_local}
 
 both_lists : {X : Type 0} (p : X → Bool) (xs ys : List X) → list_all p (xs ++ ys) ≡ true → (list_all p xs ≡ true) × (list_all p ys ≡ true)
 both_lists p xs ys h = both_true (list_all p xs) (list_all p ys) (sym (list_all-append p xs ys) ∙ h)

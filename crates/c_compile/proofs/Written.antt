@@ -117,30 +117,30 @@ module _ (sh : Shape) (exits : Exits) {a b c : Body} where
 -- ---- choices
 
 module _ (sh : Shape) {a b c d e f : Body} where
-  pub if_written : (test : PExpr) (when : PStmt) (line : ℕ) (exits : Exits) (place start end : ℕ) → place ≡ length (steps_of a) → start ≡ place + 1
-      → end ≡ end_of_stmt sh when (end_of_value sh test start + 1) + 1 → Wrote a b (λ blocks. put blocks (instr.Line line)) → Wrote b c (code_of_value sh test)
+  pub if_written : (test : PExpr) (when : PStmt) (line : ℕ) (exits : Exits) (place end : ℕ) → place ≡ length (steps_of a)
+      → end ≡ end_of_stmt sh when (end_of_value sh test (place + 1) + 1) + 1 → Wrote a b (λ blocks. put blocks (instr.Line line)) → Wrote b c (code_of_value sh test)
       → Wrote c d (λ blocks. put blocks (instr.JumpZero end)) → Wrote d e (code_of_stmt sh when exits) → Wrote e f (λ blocks. put blocks (instr.Jump end))
       → Wrote a f (λ blocks. put blocks (instr.Line line) ⨾ if_code sh test (stmt_code sh when) None exits blocks)
   unfolding code_of_value value_of code_of_stmt end_of_stmt end_of_value
-  if_written test when line exits place start end at_place at_start at_end h1 h2 h3 h4 h5 =
+  if_written test when line exits place end at_place at_end h1 h2 h3 h4 h5 =
       let p = length (steps_of a) in
       let Q : ℕ → Blocks → Laid = λ n. λ blocks. put blocks (instr.Line line) ⨾
       (code_of_value sh test blocks ⨾ (put blocks (instr.JumpZero n) ⨾ (code_of_stmt sh when exits blocks ⨾ (put blocks (instr.Jump n) ⨾ nothing)))) in
       let all = wrote_both h1 (wrote_both h2 (wrote_both h3 (wrote_both h4 (wrote_both h5 (wrote_nothing f h5.fine))))) in
-      let end_is = at_end ∙ ap (λ n. end_of_stmt sh when (end_of_value sh test n + 1) + 1) (at_start ∙ ap (λ n. n + 1) at_place) in
+      let end_is = at_end ∙ ap (λ n. end_of_stmt sh when (end_of_value sh test (n + 1) + 1) + 1) at_place in
       wrote_as (λ blocks. put blocks (instr.Line line) ⨾ if_code sh test (stmt_code sh when) None exits blocks) all (ap (λ n. Q n (blocks_of a) p) end_is)
 
-  pub if_else_written : {g : Body} (test : PExpr) (when other : PStmt) (line : ℕ) (exits : Exits) (place start second end : ℕ) → place ≡ length (steps_of a) → start ≡ place + 1
-      → second ≡ end_of_stmt sh when (end_of_value sh test start + 1) + 1 → end ≡ end_of_stmt sh other second → Wrote a b (λ blocks. put blocks (instr.Line line))
+  pub if_else_written : {g : Body} (test : PExpr) (when other : PStmt) (line : ℕ) (exits : Exits) (place second end : ℕ) → place ≡ length (steps_of a)
+      → second ≡ end_of_stmt sh when (end_of_value sh test (place + 1) + 1) + 1 → end ≡ end_of_stmt sh other second → Wrote a b (λ blocks. put blocks (instr.Line line))
       → Wrote b c (code_of_value sh test) → Wrote c d (λ blocks. put blocks (instr.JumpZero second)) → Wrote d e (code_of_stmt sh when exits) → Wrote e f (λ blocks. put blocks (instr.Jump end))
       → Wrote f g (code_of_stmt sh other exits) → Wrote a g (λ blocks. put blocks (instr.Line line) ⨾ if_code sh test (stmt_code sh when) (Some (stmt_code sh other)) exits blocks)
   unfolding code_of_value value_of code_of_stmt end_of_stmt end_of_value
-  if_else_written test when other line exits place start second end at_place at_start at_second at_end h1 h2 h3 h4 h5 h6 =
+  if_else_written test when other line exits place second end at_place at_second at_end h1 h2 h3 h4 h5 h6 =
       let p = length (steps_of a) in
       let Q : ℕ → ℕ → Blocks → Laid = λ n m. λ blocks. put blocks (instr.Line line) ⨾
       (code_of_value sh test blocks ⨾ (put blocks (instr.JumpZero n) ⨾ (code_of_stmt sh when exits blocks ⨾ (put blocks (instr.Jump m) ⨾ code_of_stmt sh other exits blocks)))) in
       let all = wrote_both h1 (wrote_both h2 (wrote_both h3 (wrote_both h4 (wrote_both h5 h6)))) in
-      let second_is = at_second ∙ ap (λ n. end_of_stmt sh when (end_of_value sh test n + 1) + 1) (at_start ∙ ap (λ n. n + 1) at_place) in
+      let second_is = at_second ∙ ap (λ n. end_of_stmt sh when (end_of_value sh test (n + 1) + 1) + 1) at_place in
       wrote_as (λ blocks. put blocks (instr.Line line) ⨾ if_code sh test (stmt_code sh when) (Some (stmt_code sh other)) exits blocks) all
       (ap (λ n. Q second n (blocks_of a) p) at_end ∙ ap (λ n. Q n (end_of_stmt sh other n) (blocks_of a) p) second_is)
 

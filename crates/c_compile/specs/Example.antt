@@ -51,7 +51,11 @@ abbrev pub loop_body : PStmt
 loop_body = stmt.Block [] (leave ∷ turn ∷ []) 5
 
 abbrev pub main_body : PStmt
-main_body = stmt.Block (record { slot = 0; value = Some (number_in 4 3); line = 4 } ∷ []) (stmt.While loop_test loop_body 5 ∷ stmt.Return (Some (global_in 9)) 9 ∷ []) 3
+main_body =
+    stmt.Block
+    (record { slot = 0; value = Some (number_in 4 3); line = 4 } ∷ [])
+    (stmt.While loop_test loop_body 5 ∷ stmt.Return (Some (global_in 9)) 9 ∷ [])
+    3
 
 abbrev pub the_local : Slot
 the_local = record { name = 105 ∷ []; of = Int; length = None; array_param = false; block = 0 }

@@ -248,24 +248,44 @@ module _ (sh : Shape) where
   }
   stmt_step (PStmt-F.Empty line) = plain (λ exits blocks. put blocks (instr.Line line)) (λ p. p + 1) true
   stmt_step (PStmt-F.Run part line) =
-      plain (λ exits blocks. put blocks (instr.Line line) ⨾ effect_code (Some part) blocks) (λ p. effect_ends (Some part) (p + 1)) (expr_code sh part).fits
+      plain
+      (λ exits blocks. put blocks (instr.Line line) ⨾ effect_code (Some part) blocks)
+      (λ p. effect_ends (Some part) (p + 1))
+      (expr_code sh part).fits
   stmt_step (PStmt-F.If test first second line) =
-      plain (λ exits blocks. put blocks (instr.Line line) ⨾ if_code test first second exits blocks) (λ p. else_ends second (first.ends (end_of (expr_code sh test).value (p + 1) + 1) + 1))
+      plain
+      (λ exits blocks. put blocks (instr.Line line) ⨾ if_code test first second exits blocks)
+      (λ p. else_ends second (first.ends (end_of (expr_code sh test).value (p + 1) + 1) + 1))
       ((expr_code sh test).fits && (first.fits && else_fits second))
   stmt_step (PStmt-F.While test body line) =
-      plain (λ exits blocks. while_code test body line blocks) (λ p. body.ends (test_ends (Some test) (p + 1)) + 1) ((expr_code sh test).fits && body.fits)
+      plain
+      (λ exits blocks. while_code test body line blocks)
+      (λ p. body.ends (test_ends (Some test) (p + 1)) + 1)
+      ((expr_code sh test).fits && body.fits)
   stmt_step (PStmt-F.Do body test line) =
-      plain (λ exits blocks. do_code body test line blocks) (λ p. test_ends (Some test) (body.ends (p + 1)) + 1) (body.fits && (expr_code sh test).fits)
+      plain
+      (λ exits blocks. do_code body test line blocks)
+      (λ p. test_ends (Some test) (body.ends (p + 1)) + 1)
+      (body.fits && (expr_code sh test).fits)
   stmt_step (PStmt-F.For first test third body line) =
-      plain (λ exits blocks. for_code first test third body line blocks) (for_ends first test third body) (fits_if_any first && (fits_if_any test && (fits_if_any third && body.fits)))
+      plain
+      (λ exits blocks. for_code first test third body line blocks)
+      (for_ends first test third body)
+      (fits_if_any first && (fits_if_any test && (fits_if_any third && body.fits)))
   stmt_step (PStmt-F.Break line) =
       plain (λ exits blocks. put blocks (instr.Line line) ⨾ put blocks (instr.Jump exits.breaks)) (λ p. p + 1 + 1) true
   stmt_step (PStmt-F.Continue line) =
       plain (λ exits blocks. put blocks (instr.Line line) ⨾ put blocks (instr.Jump exits.continues)) (λ p. p + 1 + 1) true
   stmt_step (PStmt-F.Return value line) =
-      plain (λ exits blocks. put blocks (instr.Line line) ⨾ (returned value blocks ⨾ put blocks instr.Return)) (λ p. returned_ends value (p + 1) + 1) (fits_if_any value)
+      plain
+      (λ exits blocks. put blocks (instr.Line line) ⨾ (returned value blocks ⨾ put blocks instr.Return))
+      (λ p. returned_ends value (p + 1) + 1)
+      (fits_if_any value)
   stmt_step (PStmt-F.Switch on arms line) =
-      plain (switch_code on arms line) (λ p. arms_ends arms (end_of (arms_cases arms 0 []) (end_of (expr_code sh on).value (p + 1)) + 2)) ((expr_code sh on).fits && arms_fit arms)
+      plain
+      (switch_code on arms line)
+      (λ p. arms_ends arms (end_of (arms_cases arms 0 []) (end_of (expr_code sh on).value (p + 1)) + 2))
+      ((expr_code sh on).fits && arms_fit arms)
 
   abbrev pub arm_step : PArm-F StmtCode ArmCode → ArmCode
   arm_step arm = record { labels = arm.labels; code = sequence_code arm.list; ends = sequence_ends arm.list; fits = all_fit arm.list }

@@ -20,7 +20,9 @@ as_global place of g = record { home = home.Global; slot = place; of = of; lengt
 -- an array parameter keeps the place and the length of the caller's array
 abbrev pub as_slot : ℕ → Ctype → Slot → Found
 as_slot place of x =
-    if x.array_param then record { home = home.ArrayParam; slot = place; of = of; length = None } else record { home = home.Local; slot = place; of = of; length = x.length }
+    if x.array_param
+    then record { home = home.ArrayParam; slot = place; of = of; length = None }
+    else record { home = home.Local; slot = place; of = of; length = x.length }
 
 module _ (globals : List Global) (slots : List Slot) where
   -- a variable with its place among the globals or in the frame, and its length

@@ -1,5 +1,6 @@
 //! The laws of the code of programs.
 
+ghost use Rattle.c_compile.specs.Correct.{CheckedStands};
 ghost use Rattle.c_compile.specs.Sound.{CheckedIsSound, CheckedIsWithin};
 
 /// The code of every checked program can be run with no test of its own: whatever way control takes,
@@ -8,4 +9,10 @@ ghost use Rattle.c_compile.specs.Sound.{CheckedIsSound, CheckedIsWithin};
 pub fn law_of_sound_code()
     ensures sound { CheckedIsSound }
     ensures within { CheckedIsWithin }
+{}
+
+/// The code of every checked program stands for it: with every number of processes, whatever letters
+/// come and after every number of events, it stops with the status and in the state of the meaning.
+pub fn law_of_standing_code()
+    ensures { CheckedStands }
 {}

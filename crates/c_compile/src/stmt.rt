@@ -190,8 +190,7 @@ fn emit_if(
         (λ blocks. spec.put blocks (Instr.Line line) ⨾ spec.if_code (shape_of scope.now) test.now (stmt_code (shape_of scope.now) yes.now) None exits blocks)) }
 {
     let place = body.place()?;
-    let start = next(place)?;
-    let end = else_place(scope, test, yes, start)?;
+    let end = else_place(scope, test, yes, place)?;
     body.put(Instr::Line(line))?;
     body.put_value(scope, test)?;
     body.put(Instr::JumpZero(end))?;
@@ -216,8 +215,7 @@ fn emit_if_else(
         (Some (stmt_code (shape_of scope.now) no.now)) exits blocks)) }
 {
     let place = body.place()?;
-    let start = next(place)?;
-    let second = else_place(scope, test, yes, start)?;
+    let second = else_place(scope, test, yes, place)?;
     let end = stmt_end(scope, no, second)?;
     body.put(Instr::Line(line))?;
     body.put_value(scope, test)?;

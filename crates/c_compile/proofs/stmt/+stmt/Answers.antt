@@ -60,13 +60,13 @@ emit_block-returns t c =
 
 pub emit_if-returns : goal.emit_if-returns
 emit_if-returns t c =
-    if_written (shape_of c.args.scope.now) c.args.test.now c.args.yes.now c.args.line c.args.exits c.in_ok-place.place c.in_ok-start.start c.in_ok-end.end c.in_ok-place.ensures
-    c.in_ok-start.ensures c.in_ok-end.ensures c.in_ok-put.ensures c.in_ok-put_value.ensures c.in_ok-put-2.ensures c.in_ok-emit_stmt.ensures c.in_ok-put-3.ensures
+    if_written (shape_of c.args.scope.now) c.args.test.now c.args.yes.now c.args.line c.args.exits c.in_ok-place.place c.in_ok-end.end c.in_ok-place.ensures
+    c.in_ok-end.ensures c.in_ok-put.ensures c.in_ok-put_value.ensures c.in_ok-put-2.ensures c.in_ok-emit_stmt.ensures c.in_ok-put-3.ensures
 
 pub emit_if_else-returns : goal.emit_if_else-returns
 emit_if_else-returns t c =
-    if_else_written (shape_of c.args.scope.now) c.args.test.now c.args.yes.now c.args.no.now c.args.line c.args.exits c.in_ok-place.place c.in_ok-start.start c.in_ok-second.second c.in_ok-end.end
-    c.in_ok-place.ensures c.in_ok-start.ensures c.in_ok-second.ensures c.in_ok-end.ensures c.in_ok-put.ensures c.in_ok-put_value.ensures c.in_ok-put-2.ensures c.in_ok-emit_stmt.ensures
+    if_else_written (shape_of c.args.scope.now) c.args.test.now c.args.yes.now c.args.no.now c.args.line c.args.exits c.in_ok-place.place c.in_ok-second.second c.in_ok-end.end
+    c.in_ok-place.ensures c.in_ok-second.ensures c.in_ok-end.ensures c.in_ok-put.ensures c.in_ok-put_value.ensures c.in_ok-put-2.ensures c.in_ok-emit_stmt.ensures
     c.in_ok-put-3.ensures c.in_ok-emit_stmt-2.ensures
 
 -- ---- loops
