@@ -5,7 +5,7 @@ use std::test::Fail;
 /// Rows of a text, and its refusal.
 #[test]
 fn refusals(rt: HostRuntime) {
-    let rows: [(&[u8], LexFault); 26] = [
+    let rows: [(&[u8], LexFault); 46] = [
         (b"/* x", LexFault::OpenComment { line: 1 }),
         (b"'a", LexFault::OpenText { line: 1 }),
         (
@@ -38,6 +38,26 @@ fn refusals(rt: HostRuntime) {
         (b"#includes", LexFault::BadByte { line: 1 }),
         (b"\n\n/*/", LexFault::OpenComment { line: 3 }),
         (b"@ /*", LexFault::BadByte { line: 1 }),
+        (b"\n0x1g", LexFault::BadConstant { line: 2 }),
+        (b"4294967296", LexFault::BadConstant { line: 1 }),
+        (b"040000000000", LexFault::BadConstant { line: 1 }),
+        (b"0Xu", LexFault::BadConstant { line: 1 }),
+        (b"1_0", LexFault::BadConstant { line: 1 }),
+        (b"'a\n'", LexFault::OpenText { line: 1 }),
+        (b"'", LexFault::OpenText { line: 1 }),
+        (b"'\x80'", LexFault::BadByte { line: 1 }),
+        (b"'a\x80'", LexFault::BadConstant { line: 1 }),
+        (b"\n\n'\\x100'", LexFault::BadEscape { line: 3 }),
+        (b"'\\8'", LexFault::BadEscape { line: 1 }),
+        (b"'\\", LexFault::BadEscape { line: 1 }),
+        (b"'\\\n'", LexFault::BadEscape { line: 1 }),
+        (b"\"\\", LexFault::BadEscape { line: 1 }),
+        (b"\"\\000\"", LexFault::BadEscape { line: 1 }),
+        (b"\"a", LexFault::OpenText { line: 1 }),
+        (b"\"\x01\n", LexFault::BadByte { line: 1 }),
+        (b"/* */ /* x", LexFault::OpenComment { line: 1 }),
+        (b"; #include <a>", LexFault::BadByte { line: 1 }),
+        (b"#define a", LexFault::BadByte { line: 1 }),
     ];
     for (text, fault) in rows {
         assert!(rt; text.len() <= MAX_SOURCE_LEN);
@@ -45,7 +65,7 @@ fn refusals(rt: HostRuntime) {
     }
 }
 
-/// A name of 64 bytes, and a text of 510.
+/// A name of 64 bytes, and a text of 510: a byte behind the text's closing quote comes too late, one before it does not.
 #[test]
 fn too_long(rt: HostRuntime) -> Result<(), Fail> {
     let name = vec![in rt.alloc(); b'a'; 64]?;
@@ -66,10 +86,19 @@ fn too_long(rt: HostRuntime) -> Result<(), Fail> {
     text.pop();
     text.push(b'a')?;
     text.push(b'"')?;
-    assert_eq!(rt; text.len(), 512);
+    text.push(b'@')?;
+    assert_eq!(rt; text.len(), 513);
     assert_eq!(rt;
         lex(rt.alloc(), &text).err(),
         Some(LexFault::LongText { line: 1 })
+    );
+    text.pop();
+    text.pop();
+    text.push(b'\n')?;
+    assert_eq!(rt; text.len(), 512);
+    assert_eq!(rt;
+        lex(rt.alloc(), &text).err(),
+        Some(LexFault::OpenText { line: 1 })
     );
     Ok(())
 }
