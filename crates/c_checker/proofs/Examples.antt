@@ -214,6 +214,14 @@ one_pattern = record {
 abbrev main_again : Row
 main_again = record { unit = main [] ∷ vars (scalar (codes "main") ∷ []) ∷ []; faults = f.Twice 1 ∷ [] }
 
+-- int f(void); int f; int f(void) {} int main(void) { return f(); }
+abbrev function_as_global : Row
+function_as_global = record {
+  unit = proto (codes "f") [] ∷ vars (scalar (codes "f") ∷ []) ∷ item.Function (head (Some Int) (codes "f") []) (s.Block [] [] 1)
+      ∷ main (returns (call (codes "f") []) ∷ []) ∷ [];
+  faults = f.Twice 1 ∷ [];
+}
+
 -- int main(void) {} int main(void) {}
 abbrev second_body : Row
 second_body = record { unit = main [] ∷ main [] ∷ []; faults = f.Twice 1 ∷ [] }
@@ -326,7 +334,7 @@ double_case = record { unit = counting 1; faults = f.DoubleCase 8 ∷ [] }
 
 abbrev rows : List Row
 rows = nothing ∷ break_outside ∷ continue_in_a_switch ∷ empty_global ∷ empty_local ∷ two_heads ∷ one_argument ∷ no_argument ∷ no_body ∷ void_value ∷ main_with_a_parameter ∷ array_value
-    ∷ unknown_name ∷ unknown_call ∷ no_value_printed ∷ unknown_conversion ∷ no_target ∷ taken_names ∷ double_labels ∷ one_pattern ∷ main_again ∷ second_body ∷ local_again ∷ parameter_again ∷ scalar_used
+    ∷ unknown_name ∷ unknown_call ∷ no_value_printed ∷ unknown_conversion ∷ no_target ∷ taken_names ∷ double_labels ∷ one_pattern ∷ main_again ∷ function_as_global ∷ second_body ∷ local_again ∷ parameter_again ∷ scalar_used
     ∷ other_arrays ∷ no_constants ∷ unneeded_operands ∷ large_arrays ∷ void_operands ∷ void_returns ∷ many_arguments ∷ three_cases ∷ double_case ∷ []
 
 -- Each unit breaks these rules and no others.
