@@ -1,5 +1,5 @@
 -- A call, by its arguments.
-use Rattle.std.proofs.Common.{◌≡◌, ℕ, ◌≤◌, Bool, true, List, [], ◌∷◌, ◌++◌, length, ◌-◌, take, drop, sym, subst, ap, ◌∙◌, refl, arith, Result, Ok, Err}
+use Rattle.std.proofs.Common.{◌≡◌, ℕ, Bool, List, [], ◌∷◌, sym, subst, ap, ◌∙◌, refl, Result, Ok, Err}
 use Rattle.c_tree.specs.declared.program.PExpr.{PExpr}
 use Rattle.c_tree.specs.declared.program.Slot.{Slot}
 use Rattle.c_checker.specs.declared.fault.CheckFault.{CheckFault}
@@ -8,41 +8,17 @@ use Rattle.c_checker.specs.declared.entries.Thing.{Thing}
 use Rattle.c_checker.specs.declared.entries.Thing.TheVariants.{Scalar, Array, Function, BuiltIn, Unknown}
 use Rattle.c_checker.specs.Found.{Check, fine, ◌>>=◌, ◌>>◌, pure, note, unless, Refuses, Gives}
 use Rattle.c_checker.proofs.Found.{refuses_left}
-use denote.Param.Weighed.{most}
-use Rattle.c_tree.specs.declared.tree.Expr.{Expr, size-Expr}
+use Rattle.c_tree.specs.declared.tree.Expr.{Expr}
 use Rattle.c_checker.specs.Scope.{Names}
-use Rattle.c_checker.specs.Expressions.{Part, part_of, argument, arguments, values, element, element_place, is_array}
+use Rattle.c_checker.specs.Expressions.{Part, part_of, argument, arguments, element, element_place, is_array}
 
 -- what follows a part that breaks no rule
 pub bind_fine : {S A B : Type 0} (m : Check S A) (k : A → Check S B) (s t : S) (x : A) → m s ≡ fine x t → (m >>= k) s ≡ k x t
 bind_fine m k s t x h = rw h refl
 
-pub arguments_next : (x : Slot) (xs : List Slot) (before : List PExpr) (a : Part) (more : List Part) (s t : List (List ℕ)) (e : PExpr) → argument a x s ≡ fine e t
-    → arguments (x ∷ xs) before (a ∷ more) s ≡ arguments xs (before ++ e ∷ []) more t
-arguments_next x xs before a more s t e h = rw h refl
-
 pub arguments_err : (x : Slot) (xs : List Slot) (before : List PExpr) (a : Part) (more : List Part) (s : List (List ℕ)) (f : CheckFault) → Refuses (argument a x s).faults f
     → Refuses (arguments (x ∷ xs) before (a ∷ more) s).faults f
 arguments_err x xs before a more s f h = refuses_left _ _ f h
-
-pub values_next : (before : List PExpr) (a : Part) (more : List Part) (s t : List (List ℕ)) (e : PExpr) → a.value true s ≡ fine e t → values before (a ∷ more) s ≡ values (before ++ e ∷ []) more t
-values_next before a more s t e h = rw h refl
-
-pub values_err : (before : List PExpr) (a : Part) (more : List Part) (s : List (List ℕ)) (f : CheckFault) → Refuses (a.value true s).faults f → Refuses (values before (a ∷ more) s).faults f
-values_err before a more s f h = refuses_left _ _ f h
-
-take_length : {A : Type 0} (xs : List A) → take (length xs) xs ≡ xs
-take_length [] = refl
-take_length (x ∷ xs) = ap (λ ys. x ∷ ys) (take_length xs)
-
--- the rest of a list, as a slice pattern gives it
-pub rest_is : {A : Type 0} (xs : List A) → take (length xs - 1) (drop 1 xs) ≡ drop 1 xs
-rest_is [] = refl
-rest_is (x ∷ xs) = let e : length (x ∷ xs) - 1 ≡ length xs = omega arith in ap (λ n. take n xs) e ∙ take_length xs
-
-pub most_rest : (xs : List Expr) → most size-Expr (drop 1 xs) ≤ most size-Expr xs
-most_rest [] = omega arith
-most_rest (x ∷ xs) = omega arith
 
 -- an element that is found is a place
 pub as_place : (thing : Thing) (line : ℕ) (index : Part) (target : ℕ) (s t : List (List ℕ)) (r : Result PExpr CheckFault) → Gives (element thing line index s) r t

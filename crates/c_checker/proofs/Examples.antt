@@ -1,10 +1,11 @@
 -- What small trees stand for, and the rules that they break, by computing.
-use Rattle.std.proofs.Common.{◌≡◌, ℕ, true, false, List, [], ◌∷◌, map, Option, Some, None, refl}
+use Rattle.std.proofs.Common.{◌≡◌, ℕ, zero, suc, true, false, List, [], ◌∷◌, map, Option, Some, None, refl}
 use Rattle.std.specs.Prelude.{codes}
 use denote.Hole.Carrier.{hidden}
 use Rattle.nm_base.specs.declared.operator.Ctype.{Ctype}
 use Rattle.nm_base.specs.declared.operator.Ctype.TheVariants.{Int, Unsigned}
 use Rattle.nm_base.specs.declared.operator.BinaryOp.TheVariants as op
+use Rattle.nm_base.specs.declared.operator.UnaryOp.TheVariants as u
 use Rattle.c_tree.specs.declared.tree.Expr.{Expr}
 use Rattle.c_tree.specs.declared.tree.Expr.TheVariants as e
 use Rattle.c_tree.specs.declared.tree.Expr.TheBlock.{shape-the_row-Expr-0, hidden-the_row-Expr-0, shape-the_row-Expr-1, hidden-the_row-Expr-1}
@@ -13,6 +14,7 @@ use Rattle.c_tree.specs.declared.tree.Stmt.TheVariants as s
 use Rattle.c_tree.specs.declared.tree.Stmt.TheBlock.{shape-the_row-Stmt-0, hidden-the_row-Stmt-0, shape-the_row-Stmt-1, hidden-the_row-Stmt-1}
 use Rattle.c_tree.specs.declared.tree.Stmt.TheBlock.{shape-the_row-Arm-2, hidden-the_row-Arm-2}
 use Rattle.c_tree.specs.declared.tree.Arm.{Arm}
+use Rattle.c_tree.specs.declared.tree.Label.{Label}
 use Rattle.c_tree.specs.declared.tree.Declr.{Declr}
 use Rattle.c_tree.specs.declared.tree.Vars.{Vars}
 use Rattle.c_tree.specs.declared.tree.Param.{Param}
@@ -49,11 +51,17 @@ scalar x = record { name = x; size = None; start = None; line = 1 }
 abbrev array : List ℕ → Expr → Declr
 array x n = record { name = x; size = Some n; start = None; line = 1 }
 
+abbrev started : List ℕ → Expr → Declr
+started x y = record { name = x; size = None; start = Some y; line = 1 }
+
 abbrev ints : List Declr → Vars
 ints list = record { of = Int; list = list }
 
 abbrev param : Ctype → Option (List ℕ) → Param
 param of x = record { of = of; name = x; array = false; size = None; line = 1 }
+
+abbrev array_param : Ctype → List ℕ → Param
+array_param of x = record { of = of; name = Some x; array = true; size = None; line = 1 }
 
 abbrev head : Option Ctype → List ℕ → List Param → Head
 head result x params = record { result = result; name = x; params = params; line = 1 }
@@ -64,8 +72,29 @@ vars list = item.Vars (ints list)
 abbrev proto : List ℕ → List Param → Item
 proto x params = item.Proto (head (Some Int) x params)
 
+abbrev void_function : List ℕ → List Param → List Stmt → Item
+void_function x params list = item.Function (head None x params) (s.Block [] list 1)
+
+abbrev main_of : List Vars → List Stmt → Item
+main_of locals list = item.Function (head (Some Int) (codes "main") []) (s.Block locals list 1)
+
 abbrev main : List Stmt → Item
-main list = item.Function (head (Some Int) (codes "main") []) (s.Block [] list 1)
+main list = main_of [] list
+
+-- a switch over 1 of one arm
+abbrev switch : List Label → List Stmt → Stmt
+switch labels list = s.Switch (num 1) (record { labels = labels; list = list } ∷ []) 2
+
+abbrev case : Expr → ℕ → Label
+case x line = record { value = Some x; line = line }
+
+abbrev default : ℕ → Label
+default line = record { value = None; line = line }
+
+-- so many zeros
+abbrev zeros : ℕ → List Expr
+zeros zero = []
+zeros (suc n) = num 0 ∷ zeros n
 
 -- ---- units, each after its text, and the rules that they break
 
@@ -84,7 +113,7 @@ break_outside = record { unit = main (s.Break 2 ∷ []) ∷ []; faults = f.Break
 -- int main(void) { switch (1) { default: break; continue; } }
 abbrev continue_in_a_switch : Row
 continue_in_a_switch = record {
-  unit = main (s.Switch (num 1) (record { labels = record { value = None; line = 2 } ∷ []; list = s.Break 2 ∷ s.Continue 3 ∷ [] } ∷ []) 2 ∷ []) ∷ [];
+  unit = main (switch (default 2 ∷ []) (s.Break 2 ∷ s.Continue 3 ∷ []) ∷ []) ∷ [];
   faults = f.ContinueOutside 3 ∷ [];
 }
 
@@ -94,10 +123,7 @@ empty_global = record { unit = vars (array (codes "a") (num 0) ∷ []) ∷ main 
 
 -- int main(void) { int a[0]; return 0; }
 abbrev empty_local : Row
-empty_local = record {
-  unit = item.Function (head (Some Int) (codes "main") []) (s.Block (ints (array (codes "a") (num 0) ∷ []) ∷ []) (returns (num 0) ∷ []) 1) ∷ [];
-  faults = f.BadSize 1 ∷ [];
-}
+empty_local = record { unit = main_of (ints (array (codes "a") (num 0) ∷ []) ∷ []) (returns (num 0) ∷ []) ∷ []; faults = f.BadSize 1 ∷ [] }
 
 -- int f(int a); int f(unsigned a) { return 0; } int main(void) {}
 abbrev two_heads : Row
@@ -125,7 +151,7 @@ no_body = record { unit = proto (codes "f") [] ∷ main (returns (call (codes "f
 -- void f(void) {} int main(void) { return f(); }
 abbrev void_value : Row
 void_value = record {
-  unit = item.Function (head None (codes "f") []) (s.Block [] [] 1) ∷ main (returns (call (codes "f") []) ∷ []) ∷ [];
+  unit = void_function (codes "f") [] [] ∷ main (returns (call (codes "f") []) ∷ []) ∷ [];
   faults = f.VoidValue 2 ∷ [];
 }
 
@@ -173,12 +199,102 @@ taken_names = record { unit = vars (scalar (codes "main") ∷ scalar (codes "sen
 -- int main(void) { switch (1) { case 1: case 1: default: default: ; } }
 abbrev double_labels : Row
 double_labels = record {
-  unit = main (s.Switch (num 1) (record {
-    labels = record { value = Some (num 1); line = 2 } ∷ record { value = Some (num 1); line = 3 } ∷ record { value = None; line = 4 } ∷ record { value = None; line = 5 } ∷ [];
-    list = s.Empty 2 ∷ [];
-  } ∷ []) 2 ∷ []) ∷ [];
+  unit = main (switch (case (num 1) 2 ∷ case (num 1) 3 ∷ default 4 ∷ default 5 ∷ []) (s.Empty 2 ∷ []) ∷ []) ∷ [];
   faults = f.DoubleCase 3 ∷ f.DoubleDefault 5 ∷ [];
 }
+
+-- int main(void) { switch (1) { case 4294967295u: case -1: ; } }
+abbrev one_pattern : Row
+one_pattern = record {
+  unit = main (switch (case (e.Const 4294967295 Unsigned 2) 2 ∷ case (e.Unary u.Minus (num 1) 3) 3 ∷ []) (s.Empty 2 ∷ []) ∷ []) ∷ [];
+  faults = f.DoubleCase 3 ∷ [];
+}
+
+-- int main(void) {} int main;
+abbrev main_again : Row
+main_again = record { unit = main [] ∷ vars (scalar (codes "main") ∷ []) ∷ []; faults = f.Twice 1 ∷ [] }
+
+-- int f(void); int f; int f(void) {} int main(void) { return f(); }
+abbrev function_as_global : Row
+function_as_global = record {
+  unit = proto (codes "f") [] ∷ vars (scalar (codes "f") ∷ []) ∷ item.Function (head (Some Int) (codes "f") []) (s.Block [] [] 1)
+      ∷ main (returns (call (codes "f") []) ∷ []) ∷ [];
+  faults = f.Twice 1 ∷ [];
+}
+
+-- int main(void) {} int main(void) {}
+abbrev second_body : Row
+second_body = record { unit = main [] ∷ main [] ∷ []; faults = f.Twice 1 ∷ [] }
+
+-- void f(int a) { int a; int b; int b; } int main(void) { int f; }
+abbrev local_again : Row
+local_again = record {
+  unit = item.Function (head None (codes "f") (param Int (Some (codes "a")) ∷ []))
+      (s.Block (ints (scalar (codes "a") ∷ scalar (codes "b") ∷ scalar (codes "b") ∷ []) ∷ []) [] 1)
+      ∷ main_of (ints (scalar (codes "f") ∷ []) ∷ []) [] ∷ [];
+  faults = f.Twice 1 ∷ f.Twice 1 ∷ [];
+}
+
+-- void f(int a, int a, int send) {} int main(void) {}
+abbrev parameter_again : Row
+parameter_again = record {
+  unit = void_function (codes "f") (param Int (Some (codes "a")) ∷ param Int (Some (codes "a")) ∷ param Int (Some (codes "send")) ∷ []) [] ∷ main [] ∷ [];
+  faults = f.Twice 1 ∷ f.Twice 1 ∷ [];
+}
+
+-- int x; int main(void) { x(); return x[0]; }
+abbrev scalar_used : Row
+scalar_used = record {
+  unit = vars (scalar (codes "x") ∷ []) ∷ main (run (call (codes "x") []) ∷ returns (e.At (codes "x") (num 0) 3) ∷ []) ∷ [];
+  faults = f.NotFunction 2 ∷ f.NotArray 3 ∷ [];
+}
+
+-- void f(unsigned a[]) {} int b[2]; int main(void) { f(b); f(1); }
+abbrev other_arrays : Row
+other_arrays = record {
+  unit = void_function (codes "f") (array_param Unsigned (codes "a") ∷ []) [] ∷ vars (array (codes "b") (num 2) ∷ [])
+      ∷ main (run (call (codes "f") (name (codes "b") ∷ [])) ∷ run (call (codes "f") (num 1 ∷ [])) ∷ []) ∷ [];
+  faults = f.Mismatch 2 ∷ f.NotArray 2 ∷ [];
+}
+
+-- int n, a[n], b[b], c = c; int main(void) { switch (1) { case 1 / 0: ; } }
+abbrev no_constants : Row
+no_constants = record {
+  unit = vars (scalar (codes "n") ∷ array (codes "a") (name (codes "n")) ∷ array (codes "b") (name (codes "b")) ∷ started (codes "c") (name (codes "c")) ∷ [])
+      ∷ main (switch (case (e.Binary op.Div (num 1) (num 0) 3) 3 ∷ []) (s.Empty 2 ∷ []) ∷ []) ∷ [];
+  faults = f.NotConstant 2 ∷ f.NotConstant 2 ∷ f.NotScalar 2 ∷ f.NotConstant 2 ∷ f.NotConstant 3 ∷ [];
+}
+
+-- int a[1 || 1 / 0], b = 0 && 1 / 0; int main(void) { int x = x; }
+abbrev unneeded_operands : Row
+unneeded_operands = record {
+  unit = vars (array (codes "a") (e.Or (num 1) (e.Binary op.Div (num 1) (num 0) 2) 2) ∷ started (codes "b") (e.And (num 0) (e.Binary op.Div (num 1) (num 0) 2) 2) ∷ [])
+      ∷ main_of (ints (started (codes "x") (name (codes "x")) ∷ []) ∷ []) [] ∷ [];
+  faults = [];
+}
+
+-- int a[65536]; int b; int main(void) { int c[65537]; }
+abbrev large_arrays : Row
+large_arrays = record {
+  unit = vars (array (codes "a") (num 65536) ∷ scalar (codes "b") ∷ []) ∷ main_of (ints (array (codes "c") (num 65537) ∷ []) ∷ []) [] ∷ [];
+  faults = f.BadSize 1 ∷ f.BadSize 1 ∷ [];
+}
+
+-- void f(void) {} int main(void) { f(), f(); return (f(), 1), f(); }
+abbrev void_operands : Row
+void_operands = record {
+  unit = void_function (codes "f") [] [] ∷ main (run (e.Comma (call (codes "f") []) (call (codes "f") []) 2)
+      ∷ returns (e.Comma (e.Paren (e.Comma (call (codes "f") []) (num 1) 3) 3) (e.Call (codes "f") [] 4) 3) ∷ []) ∷ [];
+  faults = f.VoidValue 4 ∷ [];
+}
+
+-- void f(void) { return 1; } int main(void) {}
+abbrev void_returns : Row
+void_returns = record { unit = void_function (codes "f") [] (returns (num 1) ∷ []) ∷ main [] ∷ []; faults = f.VoidValue 2 ∷ [] }
+
+-- int main(void) { main(0, .., 0); } with 32 arguments
+abbrev many_arguments : Row
+many_arguments = record { unit = main (run (call (codes "main") (zeros 32)) ∷ []) ∷ []; faults = f.TooMany 2 ∷ f.Arity 2 ∷ [] }
 
 -- the third case of the program below
 abbrev third_case : ℕ → Arm
@@ -218,7 +334,8 @@ double_case = record { unit = counting 1; faults = f.DoubleCase 8 ∷ [] }
 
 abbrev rows : List Row
 rows = nothing ∷ break_outside ∷ continue_in_a_switch ∷ empty_global ∷ empty_local ∷ two_heads ∷ one_argument ∷ no_argument ∷ no_body ∷ void_value ∷ main_with_a_parameter ∷ array_value
-    ∷ unknown_name ∷ unknown_call ∷ no_value_printed ∷ unknown_conversion ∷ no_target ∷ taken_names ∷ double_labels ∷ three_cases ∷ double_case ∷ []
+    ∷ unknown_name ∷ unknown_call ∷ no_value_printed ∷ unknown_conversion ∷ no_target ∷ taken_names ∷ double_labels ∷ one_pattern ∷ main_again ∷ function_as_global ∷ second_body ∷ local_again ∷ parameter_again ∷ scalar_used
+    ∷ other_arrays ∷ no_constants ∷ unneeded_operands ∷ large_arrays ∷ void_operands ∷ void_returns ∷ many_arguments ∷ three_cases ∷ double_case ∷ []
 
 -- Each unit breaks these rules and no others.
 each_row : map (λ row. (checks (record { items = row.unit })).faults) rows ≡ map (λ row. row.faults) rows

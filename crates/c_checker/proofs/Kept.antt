@@ -23,7 +23,7 @@ use Rattle.c_checker.specs.declared.state.Around.{Around}
 use Rattle.c_tree.specs.declared.program.Function.{Function}
 use Rattle.c_checker.specs.Found.{Found, fine, pure, note, lift, ◌>>=◌}
 use Rattle.c_checker.specs.Scope.{Names}
-use Rattle.c_checker.specs.Statements.{Writes, get, visible, value, optional, size, new_local, add_local, declare, declares, locals, begin_block, slots, entry_of}
+use Rattle.c_checker.specs.Statements.{Writes, visible, value, optional, size, new_local, add_local, declare, declares, locals, begin_block, slots, entry_of}
 use Rattle.c_checker.specs.Statements.{case_label, new_label, label_faults, label, constant_pattern, labels, outside, inside_loop, inside_switch, StmtPart, ArmPart, sequence}
 use Rattle.c_checker.specs.Statements.{else_part, return_faults, arms}
 use Rattle.c_checker.specs.Statements.{block_from, block, if_stmt, while_stmt, do_stmt, controls, for_stmt, return_stmt, switch_stmt, arm}
@@ -55,9 +55,6 @@ kept_note faults = record { front = λ s. front_same s.entries }
 
 kept_lift : {A : Type 0} (found : Found (Unit {0}) A) → Kept (lift found)
 kept_lift found = record { front = λ s. front_same s.entries }
-
-kept_get : Kept get
-kept_get = record { front = λ s. front_same s.entries }
 
 kept_bind : {A B : Type 0} {m : Writes A} {f : A → Writes B} → Kept m → ((x : A) → Kept (f x)) → Kept (m >>= f)
 kept_bind {m = m} {f = f} a b = record { front = λ s. front_then (a.front s) ((b (m s).value).front (m s).state) }

@@ -133,9 +133,6 @@ keeps_push held m n h kept hides changed =
           ∙ sym (place_push name (entries_of held) h.entry) ∙ ap (place name) (sym split);
     }
 
-pub keeps_same : (held : List Held) (m n : BTreeMap (Vec ℕ Global) (Option ℕ)) → Keeps held m → IsUnchanged m n → Keeps held n
-keeps_same held m n kept same = record { hides = kept.hides; places = λ name. place_same m n same name ∙ kept.places name }
-
 -- the last entry is under its name
 last_there : (held : List Held) (m : BTreeMap (Vec ℕ Global) (Option ℕ)) (h : Held) → Keeps (held ++ h ∷ []) m
     → (name : List ℕ) → place_in m name ≡ cond (bytes_eq h.entry.name name) (Some (length (entries_of held))) (place name (entries_of held))

@@ -10,7 +10,7 @@ use Rattle.c_tree.specs.declared.tree.Head.{Head}
 use Rattle.c_tree.specs.declared.tree.Declr.{Declr}
 use Rattle.c_tree.specs.declared.tree.Stmt.{Stmt}
 use Rattle.c_tree.specs.Typing as typing
-use Rattle.c_tree.specs.Typing.{same_type, is_typed}
+use Rattle.c_tree.specs.Typing.{same_type}
 use Rattle.c_checker.specs.declared.fault.CheckFault.TheVariants.{Twice, Mismatch, NoBody}
 use Rattle.c_checker.specs.declared.headings.Heading.{Heading}
 use Rattle.c_checker.specs.declared.entries.Thing.{Thing}

@@ -30,8 +30,8 @@ use Rattle.c_checker.proofs.TypedLists.{front_same, front_more, front_get, get_n
 use Rattle.c_checker.proofs.TypedSorts.{is_value_true}
 use Rattle.c_checker.proofs.TypedParts.{ThingFits}
 use Rattle.c_checker.proofs.TypedBodies as bodies
-use Rattle.c_checker.proofs.TypedBodies.{EntriesFit, append_fits, Grows, grows_same, grows_then, Ended, Known, Good, good_pure, good_bind, good_weak, good_map, good_noted}
-use Rattle.c_checker.proofs.TypedBodies.{good_lift, good_get, Laid, HasValue, HasValueIfAny, optional_good}
+use Rattle.c_checker.proofs.TypedBodies.{append_fits, Ended, Known, Good, good_pure, good_bind, good_weak, good_map}
+use Rattle.c_checker.proofs.TypedBodies.{HasValueIfAny, optional_good}
 
 -- ---- sizes
 

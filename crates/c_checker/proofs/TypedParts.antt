@@ -14,8 +14,8 @@ use Rattle.c_tree.specs.declared.program.Callee.TheVariants.{Function as Own, Bu
 use Rattle.c_tree.specs.declared.program.BuiltIn.{BuiltIn}
 use Rattle.c_tree.specs.declared.program.BuiltIn.TheVariants.{SelfNo, Nprocs, Send, Receive, Word, Words, From, Via, Printf}
 use Rattle.c_tree.specs.Typing as typing
-use Rattle.c_tree.specs.Typing.{Sort, Value, Void, Array, Text, same_type, sort_of, sort_of_target, fit_params, fits_param, all_values, fits_built_in, fits_printf, fits_format}
-use Rattle.c_tree.specs.Typing.{is_count, is_value, conversions_from, result_of, where_true, call_of_function}
+use Rattle.c_tree.specs.Typing.{Sort, Value, Array, Text, same_type, sort_of, sort_of_target, fit_params, fits_param, all_values, fits_built_in, fits_format}
+use Rattle.c_tree.specs.Typing.{is_count, conversions_from, result_of, where_true, call_of_function}
 use Rattle.c_checker.specs.declared.fault.CheckFault.{CheckFault}
 use Rattle.c_checker.specs.declared.fault.CheckFault.TheVariants.{Undeclared, NotArray, NotFunction, NotAssignable, Arity, TooMany, Format}
 use Rattle.c_checker.specs.declared.entries.Thing.{Thing}
@@ -27,7 +27,7 @@ use Rattle.c_checker.specs.Expressions.{returned, call_of, call_function, takes,
 use Rattle.c_checker.specs.Expressions.{call_built_in, call_nothing, call_thing, call}
 use Rattle.c_checker.proofs.TypedLists.{front_more, front_then, front_last, nil_left, nil_right, unless_none, and_true, both_true}
 use Rattle.c_checker.proofs.TypedSorts as sorts
-use Rattle.c_checker.proofs.TypedSorts.{IsValue, IsPlace, IsNothing, IsArray, Used, value_used, place_value, name_is, array_is, element_is, call_value, text_is, is_value_true}
+use Rattle.c_checker.proofs.TypedSorts.{IsValue, IsPlace, IsArray, Used, value_used, place_value, name_is, array_is, element_is, call_value, text_is, is_value_true}
 use Rattle.c_checker.proofs.TypedReads.{Good, good_pure, good_broken, good_bind, good_weak, good_map, good_noted, good_after, good_notes, good_if, good_where}
 
 -- ---- parameters

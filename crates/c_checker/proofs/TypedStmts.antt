@@ -22,8 +22,8 @@ use Rattle.c_tree.specs.declared.tree.Vars.{Vars}
 use Rattle.c_tree.specs.declared.tree.Label.{Label}
 use Rattle.c_tree.specs.Typing as typing
 use Rattle.c_tree.specs.Checks as checks
-use Rattle.c_tree.specs.Checks.{StmtCheck, ArmCheck, all_fine, blocks_of, arms_fine, blocks_of_arms, labels_of, labels_differ, same_label, has_labels, in_loop, in_switch}
-use Rattle.c_tree.specs.Checks.{value_fits, effect_fits, test_fits, return_fits, start_fits, else_fine, else_blocks, check_of, check_step, is_block_slot, in_order, blocks_fit}
+use Rattle.c_tree.specs.Checks.{StmtCheck, ArmCheck, all_fine, blocks_of, labels_differ, same_label, in_loop}
+use Rattle.c_tree.specs.Checks.{value_fits, effect_fits, test_fits, check_of, check_step, blocks_fit}
 use Rattle.c_checker.specs.declared.fault.CheckFault.TheVariants.{DoubleCase, DoubleDefault}
 use Rattle.c_checker.specs.declared.headings.Heading.{Heading}
 use Rattle.c_checker.specs.declared.state.Body.{Body}

@@ -29,9 +29,9 @@ use Rattle.c_checker.specs.declared.state.File.{File}
 use Rattle.c_checker.specs.Found.{Found, unless}
 use Rattle.c_checker.specs.Scope.{Names, variable, built_in, latest, find, params_of, params_of_heading, is_taken}
 use Rattle.c_checker.specs.Statements.{declr_faults, size}
-use Rattle.c_checker.specs.Units.{visible, visible_after, visible_params, initial, global_of, global_entry, global, globals, slot_of_param, param_name_faults, params, heading_of, first_head, head_of}
+use Rattle.c_checker.specs.Units.{visible, visible_params, initial, global_of, global_entry, enter_global, global, globals, slot_of_param, param_name_faults, params, heading_of, first_head, head_of}
 use Rattle.c_checker.specs.Units.{head}
-use Rattle.c_checker.proofs.TypedLists.{Front, front_then, front_last, get_next, nil_left, nil_right, unless_none, and_true, both_true, not_nil}
+use Rattle.c_checker.proofs.TypedLists.{Front, front_then, front_last, get_next, nil_left, nil_right, unless_none, and_true, both_true, not_true, not_nil}
 use Rattle.c_checker.proofs.TypedReads.{AllShort}
 use Rattle.c_checker.proofs.TypedParts.{ThingFits, SameParams}
 use Rattle.c_checker.proofs.TypedBodies.{EntriesFit}
@@ -198,12 +198,22 @@ module _ (G : List Global) (F : List Function) (T : List (List ℕ)) where
       by None e = ap sort_of_global e
       by (Some m) e = ap sort_of_global e
 
+  size_some : (names : Names) (o : Option Expr) (line : ℕ) → is_some (size names o line).value ≡ is_some o
+  size_some names None line = refl
+  size_some names (Some e) line = refl
+
   module _ (of : Ctype) (d : Declr) (s : File) where
+    abbrev entry : Entry
+    entry = global_entry of d (length s.globals)
+
+    abbrev entered : Found File (Unit {0})
+    entered = enter_global entry d.line s
+
     abbrev sized : Found (Unit {0}) (Option ℕ)
-    sized = size (visible s) d.size d.line
+    sized = size (visible entered.state) d.size d.line
 
     abbrev begun : Found (Unit {0}) ℕ
-    begun = initial (visible_after of d sized.value s) d.start
+    begun = initial (visible entered.state) d.start
 
     abbrev made : Global
     made = global_of of d sized.value begun.value
@@ -214,6 +224,7 @@ module _ (G : List Global) (F : List Function) (T : List (List ℕ)) where
     record GlobalFine : Type 0 where
       name : is_name d.name ≡ true
       array : (is_none d.size || is_none d.start) ≡ true
+      free : is_taken d.name s.entries ≡ false
       few : length s.globals < 1024
       length : is_size sized.value ≡ true
       words : fits ≡ true
@@ -221,17 +232,19 @@ module _ (G : List Global) (F : List Function) (T : List (List ℕ)) where
     global_fine : (global of d s).faults ≡ [] → GlobalFine
     global_fine h =
         let own = declr_faults d in
-        let twice = unless (not (is_taken d.name s.entries)) (Twice d.line) in
         let many = unless (nat_lt (length s.globals) 1024) (TooMany d.line) in
         let last = unless fits (BadSize d.line) in
-        let first = nil_left (own ++ twice ++ many) (sized.faults ++ (begun.faults ++ (last ++ []))) h in
-        let rest = nil_right (own ++ twice ++ many) (sized.faults ++ (begun.faults ++ (last ++ []))) h in
-        let declared = declr_is d (nil_left own twice (nil_left (own ++ twice) many first)) in
+        let measured = sized.faults ++ (begun.faults ++ (last ++ [])) in
+        let first = nil_left (own ++ many) (entered.faults ++ measured) h in
+        let after = nil_right (own ++ many) (entered.faults ++ measured) h in
+        let rest = nil_right entered.faults measured after in
+        let declared = declr_is d (nil_left own many first) in
         record {
           name = declared.0;
           array = declared.1;
-          few = ltb-true (length s.globals) 1024 (unless_none (nat_lt (length s.globals) 1024) (TooMany d.line) (nil_right (own ++ twice) many first));
-          length = size_is (visible s) d.size d.line (nil_left sized.faults (begun.faults ++ (last ++ [])) rest);
+          free = not_true (is_taken d.name s.entries) (unless_none (not (is_taken d.name s.entries)) (Twice d.line) (nil_left entered.faults measured after));
+          few = ltb-true (length s.globals) 1024 (unless_none (nat_lt (length s.globals) 1024) (TooMany d.line) (nil_right own many first));
+          length = size_is (visible entered.state) d.size d.line (nil_left sized.faults (begun.faults ++ (last ++ [])) rest);
           words = unless_none fits (BadSize d.line) (nil_left last [] (nil_right begun.faults (last ++ []) (nil_right sized.faults (begun.faults ++ (last ++ [])) rest)));
         }
 
@@ -239,12 +252,16 @@ module _ (G : List Global) (F : List Function) (T : List (List ℕ)) where
     global_keeps h e k =
         let f = global_fine h in
         let words : (global of d s).state.words ≡ s.words + words_of_global made = ap (λ b. if b then s.words + words_of_global made else s.words) f.words in
+        let entries : (global of d s).state.entries ≡ s.entries ++ entry ∷ [] = ap (λ b. if b then s.entries else s.entries ++ entry ∷ []) f.free in
+        let fitting = entry_fits (length s.headings) (length s.globals) made (front_last s.globals made e.globals) in
+        let thing : FileThing (length s.headings) entry.thing
+        = subst (λ b. FileThing (length s.headings) (variable (AGlobal (length s.globals)) of b)) (size_some (visible entered.state) d.size d.line) fitting in
         record {
-          entries = entries_and (length s.headings) s.entries (global_entry of d sized.value (length s.globals) ∷ []) k.entries
-              (entry_fits (length s.headings) (length s.globals) made (front_last s.globals made e.globals), tt);
-          named = list_all-append (λ (e : Entry). is_name e.name) s.entries (global_entry of d sized.value (length s.globals) ∷ []) ∙ and_true k.named (and_true f.name refl);
+          entries = subst (FileEntries (length s.headings)) (sym entries) (entries_and (length s.headings) s.entries (entry ∷ []) k.entries (thing, tt));
+          named = ap (list_all (λ (e : Entry). is_name e.name)) entries
+              ∙ list_all-append (λ (e : Entry). is_name e.name) s.entries (entry ∷ []) ∙ and_true k.named (and_true f.name refl);
           globals = list_all-append global_fits s.globals (made ∷ [])
-              ∙ and_true k.globals (and_true (and_true (and_true f.name f.length) (start_is (visible s) (visible_after of d sized.value s) d.size d.start d.line f.array)) refl);
+              ∙ and_true k.globals (and_true (and_true (and_true f.name f.length) (start_is (visible entered.state) (visible entered.state) d.size d.start d.line f.array)) refl);
           many = omega (arith, f.few, length-append s.globals (made ∷ []));
           words = words_more s.globals made ∙ ap (λ n. n + words_of_global made) k.words ∙ sym words;
           room = omega (arith, words, leb-true (s.words + words_of_global made) 65536 f.words);

@@ -52,8 +52,22 @@ initial names (Some e) = ((λ s. constant_pattern names e) >>= (λ n. pure (unwr
 abbrev pub global_of : Ctype → Declr → Option ℕ → ℕ → Global
 global_of of d n start = record { name = d.name; of = of; length = n; start = start }
 
+-- a global's rules, its name aside
 abbrev pub global_faults : Declr → File → List CheckFault
-global_faults d s = declr_faults d ++ unless (not (is_taken d.name s.entries)) (Twice d.line) ++ unless (nat_lt (length s.globals) 1024) (TooMany d.line)
+global_faults d s = declr_faults d ++ unless (nat_lt (length s.globals) 1024) (TooMany d.line)
+
+abbrev pub global_entry : Ctype → Declr → ℕ → Entry
+global_entry of d number = record { name = d.name; thing = variable (AGlobal number) of (is_some d.size) }
+
+-- A name that is taken keeps what it stands for.
+abbrev pub enter_global : Entry → ℕ → Files (Unit {0})
+enter_global e line = λ s.
+    let taken = is_taken e.name s.entries in
+    record {
+      value = tt;
+      state = record s { entries = if taken then s.entries else s.entries ++ e ∷ [] };
+      faults = unless (not taken) (Twice line);
+    }
 
 -- A global with which the words pass the limit isn't counted.
 abbrev pub count_words : Global → ℕ → Files (Unit {0})
@@ -65,27 +79,20 @@ count_words g line = λ s.
       faults = unless fits (BadSize line);
     }
 
-abbrev pub global_entry : Ctype → Declr → Option ℕ → ℕ → Entry
-global_entry of d n number = record { name = d.name; thing = variable (AGlobal number) of (is_some n) }
+abbrev pub add_global : Global → Files (Unit {0})
+add_global g = λ s. fine tt (record s { globals = s.globals ++ g ∷ [] })
 
-abbrev pub add_global : Ctype → Declr → Option ℕ → ℕ → Files (Unit {0})
-add_global of d n start = λ s. fine tt (record s {
-  globals = s.globals ++ global_of of d n start ∷ [];
-  entries = s.entries ++ global_entry of d n (length s.globals) ∷ [];
-})
-
--- what is visible in the initialiser of a global: its own name, too
-abbrev pub visible_after : Ctype → Declr → Option ℕ → File → Names
-visible_after of d n s = names_of (s.entries ++ global_entry of d n (length s.globals) ∷ []) s.headings
-
+-- A global is visible after its name, in its size and its initialiser too.
 abbrev pub global : Ctype → Declr → Files (Unit {0})
 global of d = do
   s ← get
   note (global_faults d s)
-  n ← lift (size (visible s) d.size d.line)
-  start ← lift (initial (visible_after of d n s) d.start)
+  enter_global (global_entry of d (length s.globals)) d.line
+  t ← get
+  n ← lift (size (visible t) d.size d.line)
+  start ← lift (initial (visible t) d.start)
   count_words (global_of of d n start) d.line
-  add_global of d n start
+  add_global (global_of of d n start)
 
 abbrev pub globals : Ctype → List Declr → Files (Unit {0})
 globals of [] = pure tt

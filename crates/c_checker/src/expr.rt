@@ -1,7 +1,7 @@
 //! Expressions.
 
 ghost use Rattle.std.specs.Prelude.{◌≡◌, ℕ, List, [], ◌∷◌, length, true, map, IfOk};
-ghost use Rattle.c_checker.specs.Found.{Gives, Tests};
+ghost use Rattle.c_checker.specs.Found.{Gives};
 ghost use Rattle.c_checker.specs.Scope.{Names, names_of, params_of};
 ghost use Rattle.c_checker.specs.Expressions as spec;
 ghost use Rattle.c_checker.specs.Expressions.{part_of, part_step};

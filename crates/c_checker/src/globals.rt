@@ -36,14 +36,32 @@ fn free_number(file: &File, d: &Declr) -> Result<u32, CheckFault>
     ensures no { IfErr result (λ f. Refuses (spec.global_faults d.now file.now) f) }
 {
     test_declr(d)?;
-    if file.entries.is_taken(d.name.as_slice(), 0) {
-        return Err(CheckFault::Twice { line: d.line });
-    }
     let number = file.globals.as_slice().len();
     if number >= MAX_GLOBALS {
         return Err(CheckFault::TooMany { line: d.line });
     }
     Ok(number as u32)
+}
+
+/// Makes the name of the global with this number visible.
+fn enter_global(
+    alloc: Global,
+    file: &mut File,
+    of: Ctype,
+    d: &Declr,
+    number: u32,
+) -> Result<(), CheckFault>
+    ensures { Gives (spec.enter_global (spec.global_entry of d.now number) d.now.line file.old) result file.new }
+{
+    if file.entries.is_taken(d.name.as_slice(), 0) {
+        return Err(CheckFault::Twice { line: d.line });
+    }
+    let entry = Entry {
+        name: d.name.copy(alloc)?,
+        thing: thing_of(Target::Global(number), of, d.size.is_some()),
+    };
+    file.entries.push(alloc, entry)?;
+    Ok(())
 }
 
 /// The words of a variable.
@@ -65,29 +83,11 @@ fn count_words(file: &mut File, variable: &Variable, line: u32) -> Result<(), Ch
     Ok(())
 }
 
-/// Adds a global with the next number.
-fn add_global(
-    alloc: Global,
-    file: &mut File,
-    d: &Declr,
-    variable: Variable,
-    number: u32,
-) -> Result<(), CheckFault>
-    requires named { variable ≡ spec.global_of variable.of d.now variable.length variable.start }
-    requires next { number ≡ length file.old.globals }
-    ensures { Gives (spec.add_global variable.of d.now variable.length variable.start file.old) result file.new }
+/// Adds a global after the others.
+fn add_global(alloc: Global, file: &mut File, variable: Variable) -> Result<(), CheckFault>
+    ensures { Gives (spec.add_global variable file.old) result file.new }
 {
-    let thing = thing_of(
-        Target::Global(number),
-        variable.of,
-        variable.length.is_some(),
-    );
     file.globals.push(alloc, variable)?;
-    let entry = Entry {
-        name: d.name.copy(alloc)?,
-        thing,
-    };
-    file.entries.push(alloc, entry)?;
     Ok(())
 }
 
@@ -97,6 +97,7 @@ fn global(alloc: Global, file: &mut File, of: Ctype, d: &Declr) -> Result<(), Ch
     ensures { Gives (spec.global of d.now file.old) result file.new }
 {
     let number = free_number(file, d)?;
+    enter_global(alloc, file, of, d, number)?;
     let length = size(&d.size, d.line)?;
     let start = initial(&d.start)?;
     let variable = Variable {
@@ -106,7 +107,7 @@ fn global(alloc: Global, file: &mut File, of: Ctype, d: &Declr) -> Result<(), Ch
         start,
     };
     count_words(file, &variable, d.line)?;
-    add_global(alloc, file, d, variable, number)
+    add_global(alloc, file, variable)
 }
 
 /// Globals of one type.

@@ -1,7 +1,7 @@
 //! Statements.
 
 ghost use Rattle.std.specs.Prelude.{◌≡◌, [], ◌∷◌, ◌++◌, map, option_map, IfOk};
-ghost use Rattle.c_checker.specs.Found.{Gives, Tests};
+ghost use Rattle.c_checker.specs.Found.{Gives};
 ghost use Rattle.c_checker.specs.Statements as spec;
 ghost use Rattle.c_checker.specs.Statements.{stmt_of, arm_of};
 

@@ -29,18 +29,20 @@ fn number(bits: u32) -> Expr {
     }
 }
 
-fn name(alloc: Global, text: &[u8]) -> Result<Expr, AllocError> {
+fn name(alloc: Global, text: &[u8], line: u32) -> Result<Expr, AllocError> {
     let name = bytes(alloc, text)?;
-    Ok(Expr::Name { name, line: 1 })
+    Ok(Expr::Name { name, line })
 }
 
-fn call(alloc: Global, text: &[u8], args: List<Expr>) -> Result<Expr, AllocError> {
+fn call(alloc: Global, text: &[u8], args: List<Expr>, line: u32) -> Result<Expr, AllocError> {
     let name = bytes(alloc, text)?;
-    Ok(Expr::Call {
-        name,
-        args,
-        line: 1,
-    })
+    Ok(Expr::Call { name, args, line })
+}
+
+fn element(alloc: Global, text: &[u8], line: u32) -> Result<Expr, AllocError> {
+    let name = bytes(alloc, text)?;
+    let index = Boxed::new(alloc, number(0))?;
+    Ok(Expr::At { name, index, line })
 }
 
 fn difference(alloc: Global, left: u32, right: u32) -> Result<Expr, AllocError> {
@@ -65,13 +67,13 @@ fn returned(alloc: Global, value: Expr) -> Result<List<Stmt>, AllocError> {
     )
 }
 
-fn array(alloc: Global, text: &[u8], size: u32) -> Result<Vars, AllocError> {
+fn array(alloc: Global, text: &[u8], size: Expr, line: u32) -> Result<Vars, AllocError> {
     let name = bytes(alloc, text)?;
     let declr = Declr {
         name,
-        size: Some(number(size)),
+        size: Some(size),
         start: None,
-        line: 1,
+        line,
     };
     let declrs = list(alloc, declr)?;
     Ok(Vars {
@@ -120,23 +122,27 @@ fn function(head: Head, locals: List<Vars>, list: List<Stmt>) -> Item {
     }
 }
 
+/// `int main(void) { locals body }`
+fn main_of(alloc: Global, locals: List<Vars>, body: List<Stmt>) -> Result<Item, AllocError> {
+    let head = head(alloc, Some(Ctype::Int), b"main", none(alloc))?;
+    Ok(function(head, locals, body))
+}
+
 /// `int main(void) { body }`
 fn main_with(alloc: Global, body: List<Stmt>) -> Result<Item, AllocError> {
-    let head = head(alloc, Some(Ctype::Int), b"main", none(alloc))?;
-    Ok(function(head, none(alloc), body))
+    main_of(alloc, none(alloc), body)
 }
 
 // Units, which the comments spell.
 
 // int main(void) { int a[0]; return 0; }
 fn empty_array(alloc: Global) -> Result<List<Item>, AllocError> {
-    let locals = list(alloc, array(alloc, b"a", 0)?)?;
+    let locals = list(alloc, array(alloc, b"a", number(0), 1)?)?;
     let body = returned(alloc, number(0))?;
-    let head = head(alloc, Some(Ctype::Int), b"main", none(alloc))?;
-    list(alloc, function(head, locals, body))
+    list(alloc, main_of(alloc, locals, body)?)
 }
 
-// int f(int a); int f(unsigned a) { return 0; }
+// int f(int a); int f(unsigned a) { return 0; } int main(void) { return 0; }
 fn two_heads(alloc: Global) -> Result<List<Item>, AllocError> {
     let mut items = Vec::new(alloc);
     let params = param(alloc, Ctype::Int, b"a")?;
@@ -146,12 +152,14 @@ fn two_heads(alloc: Global) -> Result<List<Item>, AllocError> {
     let second = head(alloc, Some(Ctype::Int), b"f", params)?;
     let body = returned(alloc, number(0))?;
     items.push(function(second, none(alloc), body))?;
+    let body = returned(alloc, number(0))?;
+    items.push(main_with(alloc, body)?)?;
     Ok(List::from_vec(items))
 }
 
 // int f(void); int main(void) { return f(args); }
 fn call_of_proto(alloc: Global, args: List<Expr>) -> Result<List<Item>, AllocError> {
-    let body = returned(alloc, call(alloc, b"f", args)?)?;
+    let body = returned(alloc, call(alloc, b"f", args, 1)?)?;
     let mut items = Vec::new(alloc);
     let f = head(alloc, Some(Ctype::Int), b"f", none(alloc))?;
     items.push(Item::Proto(f))?;
@@ -167,7 +175,7 @@ fn argument(alloc: Global) -> Result<List<Item>, AllocError> {
 
 // void f(void) {} int main(void) { return f(); }
 fn void_value(alloc: Global) -> Result<List<Item>, AllocError> {
-    let body = returned(alloc, call(alloc, b"f", none(alloc))?)?;
+    let body = returned(alloc, call(alloc, b"f", none(alloc), 1)?)?;
     let mut items = Vec::new(alloc);
     let f = head(alloc, None, b"f", none(alloc))?;
     items.push(function(f, none(alloc), none(alloc)))?;
@@ -177,17 +185,17 @@ fn void_value(alloc: Global) -> Result<List<Item>, AllocError> {
 
 // int main(int a) { return a; }
 fn main_of_one(alloc: Global) -> Result<List<Item>, AllocError> {
-    let body = returned(alloc, name(alloc, b"a")?)?;
+    let body = returned(alloc, name(alloc, b"a", 1)?)?;
     let params = param(alloc, Ctype::Int, b"a")?;
     let head = head(alloc, Some(Ctype::Int), b"main", params)?;
     list(alloc, function(head, none(alloc), body))
 }
 
-// int a[3]; int main(void) { return a; }
-fn array_value(alloc: Global) -> Result<List<Item>, AllocError> {
-    let body = returned(alloc, name(alloc, b"a")?)?;
+// int a[3]; int main(void) { return value; }
+fn after_an_array(alloc: Global, value: Expr) -> Result<List<Item>, AllocError> {
+    let body = returned(alloc, value)?;
     let mut items = Vec::new(alloc);
-    items.push(Item::Vars(array(alloc, b"a", 3)?))?;
+    items.push(Item::Vars(array(alloc, b"a", number(3), 1)?))?;
     items.push(main_with(alloc, body)?)?;
     Ok(List::from_vec(items))
 }
@@ -198,7 +206,7 @@ fn main_alone(alloc: Global, body: List<Stmt>) -> Result<List<Item>, AllocError>
 
 // int main(void) { return x; }
 fn unknown_name(alloc: Global) -> Result<List<Item>, AllocError> {
-    let body = returned(alloc, name(alloc, b"x")?)?;
+    let body = returned(alloc, name(alloc, b"x", 1)?)?;
     main_alone(alloc, body)
 }
 
@@ -212,7 +220,7 @@ fn no_value_printed(alloc: Global) -> Result<List<Item>, AllocError> {
             line: 1,
         },
     )?;
-    let part = call(alloc, b"printf", args)?;
+    let part = call(alloc, b"printf", args, 1)?;
     let body = list(alloc, Stmt::Run { part, line: 1 })?;
     main_alone(alloc, body)
 }
@@ -237,8 +245,7 @@ fn labels(alloc: Global, n: u32) -> Result<List<Label>, AllocError> {
 }
 
 // int main(void) { switch (4) { labels break; } }
-fn switch(alloc: Global, n: u32) -> Result<List<Item>, AllocError> {
-    let labels = labels(alloc, n)?;
+fn switch_of(alloc: Global, labels: List<Label>) -> Result<List<Item>, AllocError> {
     let statements = list(alloc, Stmt::Break { line: 2 })?;
     let arms = list(
         alloc,
@@ -258,6 +265,70 @@ fn switch(alloc: Global, n: u32) -> Result<List<Item>, AllocError> {
     main_alone(alloc, body)
 }
 
+// int main(void) { int a[1]; <newline> int a[1]; return 0; }
+fn second_local(alloc: Global) -> Result<List<Item>, AllocError> {
+    let mut locals = Vec::new(alloc);
+    locals.push(array(alloc, b"a", number(1), 1)?)?;
+    locals.push(array(alloc, b"a", number(1), 2)?)?;
+    let body = returned(alloc, number(0))?;
+    list(alloc, main_of(alloc, List::from_vec(locals), body)?)
+}
+
+// int main(void) { int a[ <newline> main]; return 0; }
+fn size_of_a_name(alloc: Global) -> Result<List<Item>, AllocError> {
+    let size = name(alloc, b"main", 2)?;
+    let locals = list(alloc, array(alloc, b"a", size, 1)?)?;
+    let body = returned(alloc, number(0))?;
+    list(alloc, main_of(alloc, locals, body)?)
+}
+
+// int main(int a) { <newline> return a[0]; }
+fn element_of_a_scalar(alloc: Global) -> Result<List<Item>, AllocError> {
+    let body = returned(alloc, element(alloc, b"a", 2)?)?;
+    let params = param(alloc, Ctype::Int, b"a")?;
+    let head = head(alloc, Some(Ctype::Int), b"main", params)?;
+    list(alloc, function(head, none(alloc), body))
+}
+
+// int main(void) { <newline> main() = 1; }
+fn call_as_target(alloc: Global) -> Result<List<Item>, AllocError> {
+    let target = call(alloc, b"main", none(alloc), 2)?;
+    let place = Boxed::new(alloc, target)?;
+    let value = Boxed::new(alloc, number(1))?;
+    let part = Expr::Assign {
+        op: None,
+        place,
+        value,
+        line: 2,
+    };
+    let body = list(alloc, Stmt::Run { part, line: 2 })?;
+    main_alone(alloc, body)
+}
+
+// int main(void) { switch (4) { default: <newline> default: break; } }
+fn two_defaults(alloc: Global) -> Result<List<Item>, AllocError> {
+    let mut labels = Vec::new(alloc);
+    labels.push(Label {
+        value: None,
+        line: 1,
+    })?;
+    labels.push(Label {
+        value: None,
+        line: 2,
+    })?;
+    switch_of(alloc, List::from_vec(labels))
+}
+
+// int main(void) { <newline> return main(0, .., 0); }
+fn many_arguments(alloc: Global, count: usize) -> Result<List<Item>, AllocError> {
+    let mut args = Vec::new(alloc);
+    for _ in 0..count {
+        args.push(number(0))?;
+    }
+    let body = returned(alloc, call(alloc, b"main", List::from_vec(args), 2)?)?;
+    main_alone(alloc, body)
+}
+
 fn unit(alloc: Global, row: usize) -> Result<List<Item>, AllocError> {
     match row {
         0 => Ok(none(alloc)),
@@ -267,13 +338,21 @@ fn unit(alloc: Global, row: usize) -> Result<List<Item>, AllocError> {
         4 => call_of_proto(alloc, none(alloc)),
         5 => void_value(alloc),
         6 => main_of_one(alloc),
-        7 => array_value(alloc),
+        7 => after_an_array(alloc, name(alloc, b"a", 1)?),
         8 => unknown_name(alloc),
         9 => no_value_printed(alloc),
-        10 => switch(alloc, 3),
-        11 => switch(alloc, 2),
+        10 => switch_of(alloc, labels(alloc, 3)?),
+        11 => switch_of(alloc, labels(alloc, 2)?),
         12 => main_alone(alloc, list(alloc, Stmt::Break { line: 1 })?),
         13 => main_alone(alloc, list(alloc, Stmt::Continue { line: 1 })?),
+        14 => second_local(alloc),
+        15 => after_an_array(alloc, call(alloc, b"a", none(alloc), 2)?),
+        16 => element_of_a_scalar(alloc),
+        17 => call_as_target(alloc),
+        18 => size_of_a_name(alloc),
+        19 => two_defaults(alloc),
+        20 => many_arguments(alloc, 32),
+        21 => many_arguments(alloc, 31),
         _ => main_alone(alloc, returned(alloc, number(0))?),
     }
 }
@@ -285,7 +364,7 @@ fn checked(alloc: Global, row: usize) -> Result<Program, CheckFault> {
 
 #[test]
 fn rows(rt: HostRuntime) -> Result<(), Fail> {
-    let answers: [Option<CheckFault>; 15] = [
+    let answers: [Option<CheckFault>; 23] = [
         Some(CheckFault::NoMain { line: 1 }),
         Some(CheckFault::BadSize { line: 1 }),
         Some(CheckFault::Mismatch { line: 1 }),
@@ -300,6 +379,14 @@ fn rows(rt: HostRuntime) -> Result<(), Fail> {
         None,
         Some(CheckFault::BreakOutside { line: 1 }),
         Some(CheckFault::ContinueOutside { line: 1 }),
+        Some(CheckFault::Twice { line: 2 }),
+        Some(CheckFault::NotFunction { line: 2 }),
+        Some(CheckFault::NotArray { line: 2 }),
+        Some(CheckFault::NotAssignable { line: 2 }),
+        Some(CheckFault::NotConstant { line: 2 }),
+        Some(CheckFault::DoubleDefault { line: 2 }),
+        Some(CheckFault::TooMany { line: 2 }),
+        Some(CheckFault::Arity { line: 2 }),
         None,
     ];
     for (row, want) in answers.iter().enumerate() {
@@ -310,7 +397,7 @@ fn rows(rt: HostRuntime) -> Result<(), Fail> {
 
 #[test]
 fn a_program_has_what_the_tree_declares(rt: HostRuntime) -> Result<(), Fail> {
-    let program = checked(rt.alloc(), 14)?;
+    let program = checked(rt.alloc(), 22)?;
     assert_eq!(rt; program.functions.as_slice().len(), 1);
     assert_eq!(rt; program.main, 0);
     assert_eq!(rt; program.main_function().name.as_slice(), b"main".as_slice());

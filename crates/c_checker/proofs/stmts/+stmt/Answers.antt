@@ -2,7 +2,7 @@ use Rattle.std.proofs.Common.{List, ◌∷◌, map, drop, subst, sym}
 use Rattle.c_tree.specs.declared.tree.Arm.{Arm}
 use Rattle.c_checker.specs.Found.{Refuses}
 use Rattle.c_checker.specs.Statements as spec
-use Rattle.c_checker.specs.Statements.{stmt_of, arm_of}
+use Rattle.c_checker.specs.Statements.{arm_of}
 use Rattle.c_checker.proofs.Found.{gives_err, refuses_left, first_is}
 use Rattle.c_checker.proofs.StmtForms as forms
 use Rattle.c_checker.proofs.StmtForms.{check_form}
