@@ -17,6 +17,7 @@ pub mod Nexts
 pub mod Letters
 pub mod Pending
 pub mod Onwards
+pub mod Going
 pub mod Alikes
 pub mod Begins
 pub mod Knows

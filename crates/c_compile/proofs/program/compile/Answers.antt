@@ -13,8 +13,8 @@ global_variables-requires c =
     let p = c.args.p.now in
     omega (arith, ap (words_of words_of_global) c.as_slice.ensures, globals_fit p.globals p.functions p.texts p.main p.checked)
 
-pub new-code-requires-clause-sound : goal.new-code-requires-clause-sound
-new-code-requires-clause-sound c =
+pub new-requires-clause-sound : goal.new-requires-clause-sound
+new-requires-clause-sound c =
     let p = c.args.p.now in
     let copies = c.in_ok-texts.ensures ∙ c.as_slice-3.ensures in
     let words = c.in_ok-words.ensures ∙ ap first_words c.as_slice-4.ensures in
@@ -23,8 +23,8 @@ new-code-requires-clause-sound c =
     c.in_ok-functions.ensures.code copies words variables in
     sound_by (view_of c.in_ok-functions.functions.items p.main c.in_ok-texts.texts c.in_ok-words.words.items c.in_ok-variables.variables.items) p.globals p.functions p.texts p.main p.checked same
 
-pub new-code-requires-clause-within : goal.new-code-requires-clause-within
-new-code-requires-clause-within c =
+pub new-requires-clause-within : goal.new-requires-clause-within
+new-requires-clause-within c =
     let p = c.args.p.now in
     let copies = c.in_ok-texts.ensures ∙ c.as_slice-3.ensures in
     let words = c.in_ok-words.ensures ∙ ap first_words c.as_slice-4.ensures in

@@ -1,27 +1,20 @@
-use Rattle.std.proofs.Common.{◌≡◌, true, refl, sym, subst, arith}
+use Rattle.std.proofs.Common.{refl, sym, arith}
 use Rattle.stack_code.specs.View.{code_of}
-use Rattle.proc_machine.specs.declared.pause.Pause.{Pause}
 use Rattle.proc_machine.specs.declared.pause.Pause.TheVariants as pause
 use Rattle.proc_machine.specs.View.{sent_by}
-use Rattle.proc_machine.proofs.Onwards.{leads, kept_on, after_comes}
-use Rattle.proc_machine.proofs.Knows.{held, waits_is, at_send}
+use Rattle.proc_machine.proofs.Going.{holds_there, waits_there, kept_there, makes_there}
+use Rattle.proc_machine.proofs.Knows.{at_send}
 use Rattle.proc_machine.proofs.Letters.{letter_is}
 use Rattle.proc_machine.proofs.machine.Machine.send.Goals as goal
 
 pub words_to_send-words-requires-clause-holds : goal.words_to_send-words-requires-clause-holds
-words_to_send-words-requires-clause-holds c =
-    let m = c.args.self.now in
-    held (code_of m.setting.code.now) m.setting.count m.setting.me.no m.execution m.begun m.next m.kept pause.Send c.requires.waits refl
+words_to_send-words-requires-clause-holds c = holds_there c.args.self.now pause.Send c.requires.waits refl
 
 pub words_to_send-words-requires-clause-waits : goal.words_to_send-words-requires-clause-waits
-words_to_send-words-requires-clause-waits c =
-    let m = c.args.self.now in
-    waits_is (code_of m.setting.code.now) m.setting.count m.setting.me.no m.execution m.begun m.next m.kept pause.Send c.requires.waits refl
+words_to_send-words-requires-clause-waits c = waits_there c.args.self.now pause.Send c.requires.waits refl
 
 pub go_past_send-next-requires-clause-holds : goal.go_past_send-next-requires-clause-holds
-go_past_send-next-requires-clause-holds c =
-    let m = c.args.self.now in
-    held (code_of m.setting.code.now) m.setting.count m.setting.me.no m.execution m.begun m.next m.kept pause.Send c.requires.waits refl
+go_past_send-next-requires-clause-holds c = holds_there c.args.self.now pause.Send c.requires.waits refl
 
 pub go_past_send-next-requires-clause-addressed : goal.go_past_send-next-requires-clause-addressed
 go_past_send-next-requires-clause-addressed c =
@@ -30,23 +23,17 @@ go_past_send-next-requires-clause-addressed c =
 
 pub invariant_of-self : goal.invariant_of-self
 invariant_of-self c =
-    let m = c.args.self.now in
-    record {
-      kept = kept_on (code_of m.setting.code.now) m.setting.count m.setting.me.no m.execution c.go_past_send-next.new.self m.begun m.next c.go_past_send-next.result.1
-          (subst (λ (y : Pause). leads (code_of m.setting.code.now) m.setting.count m.setting.me.no y ≡ true) (sym c.requires.waits) refl) m.kept c.go_past_send-next.ensures.holds
-          c.go_past_send-next.ensures.after.stands;
-    }
+    let went = c.go_past_send-next in
+    record { kept = kept_there c.args.self.now pause.Send c.requires.waits refl went.new.self went.result.1 went.ensures.holds went.ensures.after.stands }
 
 pub returns-clause-made : goal.returns-clause-made
 returns-clause-made c =
-    let m = c.args.self.now in
+    let went = c.go_past_send-next in
     record {
-      stands = λ inputs events s. after_comes (code_of m.setting.code.now) m.setting.count m.setting.me.no m.execution c.go_past_send-next.new.self m.begun m.next c.go_past_send-next.result.1
-          (sent_by c.go_past_send-next.result.0) (subst (λ (y : Pause). leads (code_of m.setting.code.now) m.setting.count m.setting.me.no y ≡ true) (sym c.requires.waits) refl) m.kept
-          c.go_past_send-next.ensures.after inputs events s;
+      stands = makes_there c.args.self.now pause.Send c.requires.waits refl went.new.self went.result.1 (sent_by went.result.0) went.ensures.after;
       fits = sym c.requires.waits;
       setting = refl;
-      sent = omega (arith, c.go_past_send-next.ensures.sent);
+      sent = omega (arith, went.ensures.sent);
     }
 
 pub returns-clause-letter : goal.returns-clause-letter

@@ -1,15 +1,12 @@
-use Rattle.std.proofs.Common.{◌≡◌, true, refl, sym, subst}
+use Rattle.std.proofs.Common.{refl}
 use Rattle.stack_code.specs.View.{code_of}
-use Rattle.proc_machine.specs.declared.pause.Pause.{Pause}
 use Rattle.proc_machine.specs.declared.pause.Pause.TheVariants as pause
-use Rattle.proc_machine.proofs.Onwards.{leads, kept_on, accepts_comes}
-use Rattle.proc_machine.proofs.Knows.{held, at_receive, set_known, set_some}
+use Rattle.proc_machine.proofs.Going.{holds_there, kept_there, accepts_there}
+use Rattle.proc_machine.proofs.Knows.{at_receive, set_known, set_some}
 use Rattle.proc_machine.proofs.machine.Machine.take.Goals as goal
 
 pub go_past_receive-self-requires-clause-holds : goal.go_past_receive-self-requires-clause-holds
-go_past_receive-self-requires-clause-holds c =
-    let m = c.args.self.now in
-    held (code_of m.setting.code.now) m.setting.count m.setting.me.no m.execution m.begun m.next m.kept (pause.Receive c.args.set) c.requires refl
+go_past_receive-self-requires-clause-holds c = holds_there c.args.self.now (pause.Receive c.args.set) c.requires refl
 
 pub go_past_receive-self-requires-clause-there : goal.go_past_receive-self-requires-clause-there
 go_past_receive-self-requires-clause-there c =
@@ -28,21 +25,15 @@ go_past_receive-self-requires-clause-some c =
 
 pub invariant_of-self : goal.invariant_of-self
 invariant_of-self c =
-    let m = c.args.self.now in
-    record {
-      kept = kept_on (code_of m.setting.code.now) m.setting.count m.setting.me.no m.execution c.go_past_receive-self.new.self m.begun m.next c.go_past_receive-self.result
-          (subst (λ (y : Pause). leads (code_of m.setting.code.now) m.setting.count m.setting.me.no y ≡ true) (sym c.requires) refl) m.kept c.go_past_receive-self.ensures.holds
-          c.go_past_receive-self.ensures.after.stands;
-    }
+    let went = c.go_past_receive-self in
+    record { kept = kept_there c.args.self.now (pause.Receive c.args.set) c.requires refl went.new.self went.result went.ensures.holds went.ensures.after.stands }
 
 pub returns : goal.returns
 returns c =
-    let m = c.args.self.now in
+    let went = c.go_past_receive-self in
     record {
       kind_is = refl;
-      stands = λ inputs events s. accepts_comes (code_of m.setting.code.now) m.setting.count m.setting.me.no m.execution c.go_past_receive-self.new.self m.begun m.next c.go_past_receive-self.result
-          c.args.set c.args.letter (subst (λ (y : Pause). leads (code_of m.setting.code.now) m.setting.count m.setting.me.no y ≡ true) (sym c.requires) refl) m.kept
-          c.go_past_receive-self.ensures.after inputs events s;
+      stands = accepts_there c.args.self.now (pause.Receive c.args.set) c.requires refl went.new.self went.result c.args.set c.args.letter went.ensures.after;
       setting = refl;
-      sent = c.go_past_receive-self.ensures.sent;
+      sent = went.ensures.sent;
     }
