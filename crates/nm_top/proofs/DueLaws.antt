@@ -11,11 +11,10 @@ use Rattle.nm_top.specs.declared.status.Status.TheVariants.{Done, Usage, Absent,
 use Rattle.nm_top.specs.Commands.{Command, Run, command_of}
 use Rattle.nm_top.specs.Programs.{Reads}
 use Rattle.nm_top.specs.Schedules.{IsSchedule}
-use Rattle.nm_top.specs.Replies.{Reply, Says, Fetching, Reading, Answers, IsOrLacksMemory}
+use Rattle.nm_top.specs.Replies.{Reply, Says, Fetching, Reading, Answers, Owed}
 use Rattle.nm_top.specs.Needs.{Need, ProgramText, ScheduleText, name_of, limit_of, Admits, refusal_of, IsMissing, IsPastLimit, IsRefused, IsMet, AreMet, IsDue}
 use Rattle.nm_top.specs.RunAnswers.{RunAnswer, RefusesProgram, RefusesSchedule, ReadingSchedule, run_of_program}
 use Rattle.nm_top.specs.Answers.{CommandAnswer, Answer, needs_of, Due, Ready}
-use Rattle.nm_outside.specs.Causes.{Rose}
 use Rattle.nm_top.specs.Stops.{Outside}
 use Rattle.nm_top.specs.Does.{Does}
 use Rattle.nm_top.proofs.FileLaws.{Follows}
@@ -217,7 +216,7 @@ module _ (words : List (List ℕ)) (before after : Outside) (status : Status) (d
 -- what is due is answered, where nothing failed
 module _ (words : List (List ℕ)) (before after : Outside) (status : Status) (d : Does words before after status) where
   decided : (Q : Command → Files → Type 0) (S : Status) → ((c : Command) (held : Files) (reply : Reply) → Q c held → Comes held (needs_of c) reply.status → reply.status ≡ S)
-      → IfSome before.files (λ held. IsSomeAnd (command_of words) (λ c. Q c held) → ¬ Rose before.read_faults after.read_faults → ¬ Rose before.faults after.faults → IsOrLacksMemory S status)
+      → IfSome before.files (λ held. IsSomeAnd (command_of words) (λ c. Q c held) → Owed S before.read_faults after.read_faults before.faults after.faults status)
   decided Q S f = by before.files d.answer
     where
       of_reply : (held : Files) (o : Option Command) (reply : Reply) → IsSomeAnd o (λ c. Q c held) → MatchOption o (Says held Usage usage_line reply) (λ c. CommandAnswer c held reply)
@@ -226,21 +225,21 @@ module _ (words : List (List ℕ)) (before after : Outside) (status : Status) (d
       of_reply held (Some c) reply q h = f c held reply q (comes c held reply h)
 
       by : (o : Option Files) → Answers (Answer words) o after.files before.given after.given status
-          → IfSome o (λ held. IsSomeAnd (command_of words) (λ c. Q c held) → ¬ Rose before.read_faults after.read_faults → ¬ Rose before.faults after.faults → IsOrLacksMemory S status)
+          → IfSome o (λ held. IsSomeAnd (command_of words) (λ c. Q c held) → Owed S before.read_faults after.read_faults before.faults after.faults status)
       by None a = tt
       by (Some held) (inl (inl k)) = λ q r w. absurd (r (d.read_fault k))
       by (Some held) (inl (inr (inl k))) = λ q r w. absurd (w (d.write_fault k))
       by (Some held) (inl (inr (inr k))) = λ q r w. inr k
       by (Some held) (inr h) = λ q r w. inl (h.2.answered ∙ of_reply held (command_of words) h.0 q h.1)
 
-  pub lacking : IfSome before.files (λ held. Due IsMissing words held → ¬ Rose before.read_faults after.read_faults → ¬ Rose before.faults after.faults → IsOrLacksMemory Absent status)
+  pub lacking : IfSome before.files (λ held. Due IsMissing words held → Owed Absent before.read_faults after.read_faults before.faults after.faults status)
   lacking = decided (λ c. IsDue IsMissing (needs_of c)) Absent (λ c held reply. settled IsMissing held Absent (missing_head held) (missing_unmet held) (needs_of c) reply.status)
 
-  pub past_limit : IfSome before.files (λ held. Due IsPastLimit words held → ¬ Rose before.read_faults after.read_faults → ¬ Rose before.faults after.faults → IsOrLacksMemory TooLong status)
+  pub past_limit : IfSome before.files (λ held. Due IsPastLimit words held → Owed TooLong before.read_faults after.read_faults before.faults after.faults status)
   past_limit = decided (λ c. IsDue IsPastLimit (needs_of c)) TooLong (λ c held reply. settled IsPastLimit held TooLong (long_head held) (long_unmet held) (needs_of c) reply.status)
 
-  pub refused : (S : Status) → IfSome before.files (λ held. Due (IsRefused S) words held → ¬ Rose before.read_faults after.read_faults → ¬ Rose before.faults after.faults → IsOrLacksMemory S status)
+  pub refused : (S : Status) → IfSome before.files (λ held. Due (IsRefused S) words held → Owed S before.read_faults after.read_faults before.faults after.faults status)
   refused S = decided (λ c. IsDue (IsRefused S) (needs_of c)) S (λ c held reply. settled (IsRefused S) held S (refused_head S held) (refused_unmet S held) (needs_of c) reply.status)
 
-  pub ready : IfSome before.files (λ held. Ready words held → ¬ Rose before.read_faults after.read_faults → ¬ Rose before.faults after.faults → IsOrLacksMemory Done status)
+  pub ready : IfSome before.files (λ held. Ready words held → Owed Done before.read_faults after.read_faults before.faults after.faults status)
   ready = decided (λ c. AreMet (needs_of c)) Done (λ c held reply. all_met held (needs_of c) reply.status)

@@ -2,6 +2,7 @@
 use Rattle.std.specs.Prelude.{◌≡◌, ◌⊎◌, ℕ, ◌≤◌, ◌<◌, length, List, Option, Some, None, MatchOption, ⊤}
 use Rattle.std.specs.FinMap.{get}
 use Rattle.std.specs.Io.KnownBytes.{Appends}
+use Rattle.nm_outside.specs.Causes.{Rose}
 use Rattle.nm_outside.specs.Files.{Files, AppendsPart}
 use Rattle.report.specs.Texts.{absent_line, read_fault_line, too_long_line}
 use Rattle.nm_top.specs.declared.status.Status.{Status}
@@ -46,20 +47,18 @@ Answers allowed None files before after status = ⊤
 Answers allowed (Some held) files before after status =
     FellShort status ⊎ ((reply : Reply) × allowed held reply × Gave reply files before after status)
 
--- What may be printed: the text of a reply that is allowed, or the line of a read fault.
-abbrev pub MayPrint : (Files → Reply → Type 0) → (List ℕ → Type 0) → Files → List ℕ → Type 0
-MayPrint allowed fetches held text =
-    ((reply : Reply) × allowed held reply × (text ≡ reply.printed)) ⊎ ((name : List ℕ) × fetches name × (text ≡ read_fault_line name))
+-- What may be printed: the text of a reply that is allowed, where no read failed; the line of a read fault, where one did.
+abbrev pub MayPrint : (Files → Reply → Type 0) → (List ℕ → Type 0) → ℕ → ℕ → Files → List ℕ → Type 0
+MayPrint allowed fetches was now held text =
+    ((reply : Reply) × allowed held reply × (text ≡ reply.printed) × (now ≡ was))
+    ⊎ ((name : List ℕ) × fetches name × (text ≡ read_fault_line name) × Rose was now)
 
 -- Where the files are told, a part of what may be printed was given, from its front.
-abbrev pub PrintsPart : (Files → Reply → Type 0) → (List ℕ → Type 0) → Option Files → Option (List ℕ) → Option (List ℕ) → Type 0
-PrintsPart allowed fetches None before after = ⊤
-PrintsPart allowed fetches (Some held) before after = (text : List ℕ) × MayPrint allowed fetches held text × AppendsPart before after text
+abbrev pub PrintsPart : (Files → Reply → Type 0) → (List ℕ → Type 0) → ℕ → ℕ → Option Files → Option (List ℕ) → Option (List ℕ) → Type 0
+PrintsPart allowed fetches was now None before after = ⊤
+PrintsPart allowed fetches was now (Some held) before after =
+    (text : List ℕ) × MayPrint allowed fetches was now held text × AppendsPart before after text
 
--- The line of a read fault was given, and nothing else.
-abbrev pub PrintsFault : (List ℕ → Type 0) → Option (List ℕ) → Option (List ℕ) → Type 0
-PrintsFault fetches before after = (name : List ℕ) × fetches name × Appends before after (read_fault_line name)
-
--- The status is this one, or there was want of memory.
-abbrev pub IsOrLacksMemory : Status → Status → Type 0
-IsOrLacksMemory due status = (status ≡ due) ⊎ (status ≡ WantOfMemory)
+-- Where no read and no write failed, the status is this one, or there was want of memory.
+abbrev pub Owed : Status → ℕ → ℕ → ℕ → ℕ → Status → Type 0
+Owed due read_faults read_faults' faults faults' status = ¬ Rose read_faults read_faults' → ¬ Rose faults faults' → (status ≡ due) ⊎ (status ≡ WantOfMemory)
