@@ -8,14 +8,13 @@ use Rattle.report.specs.declared.cause.Refusal.TheVariants as refusals
 use Rattle.report.specs.Texts.{usage_line}
 use Rattle.nm_top.specs.declared.status.Status.{Status}
 use Rattle.nm_top.specs.declared.status.Status.TheVariants as statuses
-use Rattle.nm_top.specs.declared.stop.Stop.{Stop}
 use Rattle.nm_top.specs.declared.stop.Stop.TheVariants.{Refused, Memory}
 use Rattle.nm_top.specs.Commands.{Command, command_of}
 use Rattle.nm_top.specs.Needs.{IsNeeded}
 use Rattle.nm_top.specs.Answers.{CommandAnswer, Answer, Fetches, needs_of}
-use Rattle.nm_top.specs.Replies.{Reply, Says, Answers, PrintsPart}
+use Rattle.nm_top.specs.Replies.{Reply, Says, Answers, MayPrint, PrintsPart}
 use Rattle.nm_top.specs.Lines.{IsLineOf, PrintsLine}
-use Rattle.nm_top.specs.Stops.{Work, Works, Stops, Blames, IsOfText, is_absent_work, is_failed_work, Counts, Tells, Tries, Outside, outside, Carries, work_status, work_text}
+use Rattle.nm_top.specs.Stops.{Work, Works, Blames, is_absent_work, is_failed_work, Counts, Tells, Tries, Outside, outside, Carries, work_status, work_text}
 use Rattle.nm_top.specs.Does.{Does}
 
 -- ---- a command was carried out
@@ -41,21 +40,22 @@ gives : (allowed : Files → Reply → Type 0) (told left : Option Files) (work 
     → IfSome told (λ held. Works (allowed held) held work) → left ≡ told → Tells work before after was now status
     → Answers allowed told left before after status
 gives allowed None left work before after was now status works same told = tt
-gives allowed (Some held) left work before after was now status works same (inl failed) = inl (inr (inl failed.0))
+gives allowed (Some held) left work before after was now status works same (inl failed) = inl (inl failed.0)
 gives allowed (Some held) left (Ok text) before after was now status works same (inr told) =
     inr (_, works, record { answered = told.0; printed = told.2; left = same })
 gives allowed (Some held) left (Err (Refused refusals.Usage)) before after was now status works same (inr told) =
     inr (_, works, record { answered = told.0; printed = told.2; left = same })
 gives allowed (Some held) left (Err (Refused (refusals.Absent name))) before after was now status works same (inr told) =
     inr (_, works, record { answered = told.0; printed = told.2; left = same })
-gives allowed (Some held) left (Err (Refused (refusals.ReadFault name))) before after was now status works same (inr told) = inl (inl told.0)
+gives allowed (Some held) left (Err (Refused (refusals.ReadFault name))) before after was now status works same (inr told) =
+    inr (_, works, record { answered = told.0; printed = told.2; left = same })
 gives allowed (Some held) left (Err (Refused (refusals.TooLong name))) before after was now status works same (inr told) =
     inr (_, works, record { answered = told.0; printed = told.2; left = same })
 gives allowed (Some held) left (Err (Refused (refusals.ProgramRefused kind line))) before after was now status works same (inr told) =
     inr (_, works, record { answered = told.0; printed = told.2; left = same })
 gives allowed (Some held) left (Err (Refused (refusals.ScheduleRefused kind place))) before after was now status works same (inr told) =
     inr (_, works, record { answered = told.0; printed = told.2; left = same })
-gives allowed (Some held) left (Err Memory) before after was now status works same (inr told) = inl (inr (inr told.0))
+gives allowed (Some held) left (Err Memory) before after was now status works same (inr told) = inl (inr told.0)
 
 not_written : (work : Work) → work_status work ≢ statuses.WriteFault
 not_written (Ok text) e = absurd cc
@@ -68,20 +68,33 @@ not_written (Err (Refused (refusals.ScheduleRefused kind place))) e = absurd cc
 not_written (Err Memory) e = absurd cc
 
 -- after a failed put, a part of what is defined
-gives_part : (allowed : Files → Reply → Type 0) (fetches : List ℕ → Type 0) (told : Option Files) (work : Work) (before after : Option (List ℕ)) (reads reads' was now : ℕ) (status : Status)
-    → IfSome told (λ held. Works (allowed held) held work) → Blames fetches work → BelongsTo (is_failed_work work) reads reads' → Tells work before after was now status
-    → status ≡ statuses.WriteFault
-    → PrintsPart allowed fetches reads reads' told before after
-gives_part allowed fetches None work before after reads reads' was now status works blamed count told is = tt
-gives_part allowed fetches (Some held) work before after reads reads' was now status works blamed count (inr told) is = absurd (not_written work (sym told.0 ∙ is))
-gives_part allowed fetches (Some held) (Ok text) before after reads reads' was now status works blamed count (inl failed) is = (_, inl (_, works, refl, count.still), failed.3)
-gives_part allowed fetches (Some held) (Err (Refused refusals.Usage)) before after reads reads' was now status works blamed count (inl failed) is = (_, inl (_, works, refl, count.still), failed.3)
-gives_part allowed fetches (Some held) (Err (Refused (refusals.Absent name))) before after reads reads' was now status works blamed count (inl failed) is = (_, inl (_, works, refl, count.still), failed.3)
-gives_part allowed fetches (Some held) (Err (Refused (refusals.ReadFault name))) before after reads reads' was now status works blamed count (inl failed) is = (_, inr (_, blamed, refl, count.rose), failed.3)
-gives_part allowed fetches (Some held) (Err (Refused (refusals.TooLong name))) before after reads reads' was now status works blamed count (inl failed) is = (_, inl (_, works, refl, count.still), failed.3)
-gives_part allowed fetches (Some held) (Err (Refused (refusals.ProgramRefused kind line))) before after reads reads' was now status works blamed count (inl failed) is = (_, inl (_, works, refl, count.still), failed.3)
-gives_part allowed fetches (Some held) (Err (Refused (refusals.ScheduleRefused kind place))) before after reads reads' was now status works blamed count (inl failed) is = (_, inl (_, works, refl, count.still), failed.3)
-gives_part allowed fetches (Some held) (Err Memory) before after reads reads' was now status works blamed count (inl failed) is = absurd failed.2
+module _ (allowed : Files → Reply → Type 0) (held : Files) (reply : Reply) (reads reads' : ℕ) (is : allowed held reply) where
+  prints_fault : reply.status ≡ statuses.ReadFault → Rose reads reads' → MayPrint allowed reads reads' held reply.printed
+  prints_fault e rose = (reply, is, refl, λ s. rose, λ n. absurd (n e))
+
+  prints_other : reply.status ≢ statuses.ReadFault → reads' ≡ reads → MayPrint allowed reads reads' held reply.printed
+  prints_other n still = (reply, is, refl, λ e. absurd (n e), λ m. still)
+
+gives_part : (allowed : Files → Reply → Type 0) (told : Option Files) (work : Work) (before after : Option (List ℕ)) (reads reads' was now : ℕ) (status : Status)
+    → IfSome told (λ held. Works (allowed held) held work) → BelongsTo (is_failed_work work) reads reads' → Tells work before after was now status → status ≡ statuses.WriteFault
+    → PrintsPart allowed reads reads' told before after
+gives_part allowed None work before after reads reads' was now status works count told is = tt
+gives_part allowed (Some held) work before after reads reads' was now status works count (inr told) is = absurd (not_written work (sym told.0 ∙ is))
+gives_part allowed (Some held) (Ok text) before after reads reads' was now status works count (inl failed) is =
+    (_, prints_other allowed held _ reads reads' works (λ e. absurd cc) count.still, failed.3)
+gives_part allowed (Some held) (Err (Refused refusals.Usage)) before after reads reads' was now status works count (inl failed) is =
+    (_, prints_other allowed held _ reads reads' works (λ e. absurd cc) count.still, failed.3)
+gives_part allowed (Some held) (Err (Refused (refusals.Absent name))) before after reads reads' was now status works count (inl failed) is =
+    (_, prints_other allowed held _ reads reads' works (λ e. absurd cc) count.still, failed.3)
+gives_part allowed (Some held) (Err (Refused (refusals.ReadFault name))) before after reads reads' was now status works count (inl failed) is =
+    (_, prints_fault allowed held _ reads reads' works refl count.rose, failed.3)
+gives_part allowed (Some held) (Err (Refused (refusals.TooLong name))) before after reads reads' was now status works count (inl failed) is =
+    (_, prints_other allowed held _ reads reads' works (λ e. absurd cc) count.still, failed.3)
+gives_part allowed (Some held) (Err (Refused (refusals.ProgramRefused kind line))) before after reads reads' was now status works count (inl failed) is =
+    (_, prints_other allowed held _ reads reads' works (λ e. absurd cc) count.still, failed.3)
+gives_part allowed (Some held) (Err (Refused (refusals.ScheduleRefused kind place))) before after reads reads' was now status works count (inl failed) is =
+    (_, prints_other allowed held _ reads reads' works (λ e. absurd cc) count.still, failed.3)
+gives_part allowed (Some held) (Err Memory) before after reads reads' was now status works count (inl failed) is = absurd failed.2
 
 -- the status of work
 is_absent : (P : List ℕ → Type 0) (work : Work) → Blames P work → work_status work ≡ statuses.Absent → is_absent_work work ≡ true
@@ -200,8 +213,8 @@ module _ (words : List (List ℕ)) (before after : Outside) (status : Status) wh
         (is_no_fault (IsNeeded (needs_of command)) h.work h.counts.blames (λ e. n (answered h.work before.given after.given before.faults after.faults status h.tells m ∙ e)));
     write_fault = written h.work before.given after.given before.faults after.faults status h.tells;
     no_write_fault = unwritten h.work before.given after.given before.faults after.faults status h.tells;
-    part = λ e. gives_part (Answer words) (Fetches words) before.files h.work before.given after.given before.read_faults after.read_faults before.faults after.faults status works
-        (blames_of h.work h.counts.blames) h.counts.failed h.tells e;
+    part = λ e. gives_part (Answer words) before.files h.work before.given after.given before.read_faults after.read_faults before.faults after.faults status works h.counts.failed
+        h.tells e;
     line = prints_line h.work before.given after.given before.faults after.faults status (Fetches words) (has_line (Fetches words) h.work (blames_of h.work h.counts.blames)) h.tells;
     files = h.files;
   }
@@ -234,14 +247,14 @@ module _ (words : List (List ℕ)) (F : Option Files) (a r : ℕ) (before after 
   is_answer : (held : Files) → Answer words held (said held)
   is_answer held = subst (λ (o : Option Command). MatchOption o (Says held statuses.Usage usage_line (said held)) (λ c. CommandAnswer c held (said held))) (sym none) refl
 
-  usage_part : (o : Option Files) → Tells usage before after was now status → status ≡ statuses.WriteFault → PrintsPart (Answer words) (Fetches words) r r o before after
+  usage_part : (o : Option Files) → Tells usage before after was now status → status ≡ statuses.WriteFault → PrintsPart (Answer words) r r o before after
   usage_part None t e = tt
-  usage_part (Some held) (inl failed) e = (usage_line, inl (said held, is_answer held, refl, refl), failed.3)
+  usage_part (Some held) (inl failed) e = (usage_line, prints_other (Answer words) held (said held) r r (is_answer held) (λ e. absurd cc) refl, failed.3)
   usage_part (Some held) (inr t) e = absurd (not_written usage (sym t.0 ∙ e))
 
   answers : (o : Option Files) → Tells usage before after was now status → Answers (Answer words) o o before after status
   answers None t = tt
-  answers (Some held) (inl failed) = inl (inr (inl failed.0))
+  answers (Some held) (inl failed) = inl (inl failed.0)
   answers (Some held) (inr t) = inr (said held, is_answer held, record { answered = t.0; printed = t.2; left = refl })
 
   pub does_usage : Tells usage before after was now status → Does words (outside F a r before was) (outside F a r after now) status

@@ -19,6 +19,6 @@ pub record Does (words : List (List ℕ)) (before after : Outside) (status : Sta
   pub no_read_fault : status ≢ ReadFault → status ≢ WriteFault → after.read_faults ≡ before.read_faults
   pub write_fault : status ≡ WriteFault → Rose before.faults after.faults
   pub no_write_fault : status ≢ WriteFault → after.faults ≡ before.faults
-  pub part : status ≡ WriteFault → PrintsPart (Answer words) (Fetches words) before.read_faults after.read_faults before.files before.given after.given
+  pub part : status ≡ WriteFault → PrintsPart (Answer words) before.read_faults after.read_faults before.files before.given after.given
   pub line : PrintsLine (Fetches words) status before.given after.given
   pub files : after.files ≡ before.files

@@ -1,5 +1,5 @@
 -- Replies: what a call answers, prints and leaves. Forms for saying which replies are allowed.
-use Rattle.std.specs.Prelude.{◌≡◌, ◌⊎◌, ℕ, ◌≤◌, ◌<◌, length, List, Option, Some, None, MatchOption, ⊤}
+use Rattle.std.specs.Prelude.{◌≡◌, ◌≢◌, ◌⊎◌, ℕ, ◌≤◌, ◌<◌, length, List, Option, Some, None, MatchOption, ⊤}
 use Rattle.std.specs.FinMap.{get}
 use Rattle.std.specs.Io.KnownBytes.{Appends}
 use Rattle.nm_outside.specs.Causes.{Rose}
@@ -22,10 +22,11 @@ abbrev pub Within : Files → List ℕ → ℕ → (List ℕ → Reply → Type 
 Within files name limit then bytes reply =
     ((length bytes ≤ limit) × then bytes reply) ⊎ ((limit < length bytes) × Says files TooLong (too_long_line name) reply)
 
--- A file of at most so many bytes is needed: it is absent, or it passes the limit, or its bytes say what follows.
+-- A file of at most so many bytes is needed: its read fails, or it is absent, or it passes the limit, or its bytes say what follows.
 abbrev pub Fetching : Files → List ℕ → ℕ → (List ℕ → Reply → Type 0) → Reply → Type 0
 Fetching files name limit then reply =
-    MatchOption (get files name) (Says files Absent (absent_line name) reply) (λ bytes. Within files name limit then bytes reply)
+    Says files ReadFault (read_fault_line name) reply
+    ⊎ MatchOption (get files name) (Says files Absent (absent_line name) reply) (λ bytes. Within files name limit then bytes reply)
 
 -- A text is read: it reads as some value, which says what follows, or as none.
 abbrev pub Reading : {X : Type 0} → (X → Type 0) → (Reply → Type 0) → (X → Reply → Type 0) → Reply → Type 0
@@ -37,9 +38,9 @@ pub record Gave (reply : Reply) (files : Option Files) (before after : Option (L
   pub printed : Appends before after reply.printed
   pub left : files ≡ Some reply.files
 
--- The outside failed, or memory did, and that was answered in the place of what is defined.
+-- A write failed, or there was want of memory, and that was answered in the place of what is defined.
 abbrev pub FellShort : Status → Type 0
-FellShort status = (status ≡ ReadFault) ⊎ (status ≡ WriteFault) ⊎ (status ≡ WantOfMemory)
+FellShort status = (status ≡ WriteFault) ⊎ (status ≡ WantOfMemory)
 
 -- Where the files are told, a call gave a reply that is allowed for them, or fell short of one.
 abbrev pub Answers : (Files → Reply → Type 0) → Option Files → Option Files → Option (List ℕ) → Option (List ℕ) → Status → Type 0
@@ -47,17 +48,15 @@ Answers allowed None files before after status = ⊤
 Answers allowed (Some held) files before after status =
     FellShort status ⊎ ((reply : Reply) × allowed held reply × Gave reply files before after status)
 
--- What may be printed: the text of a reply that is allowed, where no read failed; the line of a read fault, where one did.
-abbrev pub MayPrint : (Files → Reply → Type 0) → (List ℕ → Type 0) → ℕ → ℕ → Files → List ℕ → Type 0
-MayPrint allowed fetches was now held text =
-    ((reply : Reply) × allowed held reply × (text ≡ reply.printed) × (now ≡ was))
-    ⊎ ((name : List ℕ) × fetches name × (text ≡ read_fault_line name) × Rose was now)
+-- What may be printed: the text of a reply that is allowed, whose status is ReadFault exactly where a read failed.
+abbrev pub MayPrint : (Files → Reply → Type 0) → ℕ → ℕ → Files → List ℕ → Type 0
+MayPrint allowed was now held text =
+    (reply : Reply) × allowed held reply × (text ≡ reply.printed) × (reply.status ≡ ReadFault → Rose was now) × (reply.status ≢ ReadFault → now ≡ was)
 
 -- Where the files are told, a part of what may be printed was given, from its front.
-abbrev pub PrintsPart : (Files → Reply → Type 0) → (List ℕ → Type 0) → ℕ → ℕ → Option Files → Option (List ℕ) → Option (List ℕ) → Type 0
-PrintsPart allowed fetches was now None before after = ⊤
-PrintsPart allowed fetches was now (Some held) before after =
-    (text : List ℕ) × MayPrint allowed fetches was now held text × AppendsPart before after text
+abbrev pub PrintsPart : (Files → Reply → Type 0) → ℕ → ℕ → Option Files → Option (List ℕ) → Option (List ℕ) → Type 0
+PrintsPart allowed was now None before after = ⊤
+PrintsPart allowed was now (Some held) before after = (text : List ℕ) × MayPrint allowed was now held text × AppendsPart before after text
 
 -- Where no read and no write failed, the status is this one, or there was want of memory.
 abbrev pub Owed : Status → ℕ → ℕ → ℕ → ℕ → Status → Type 0

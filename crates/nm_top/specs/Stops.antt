@@ -77,18 +77,18 @@ Blames P (Ok x) = ⊤
 Blames P (Err (Refused r)) = IsOf P r
 Blames P (Err Memory) = ⊤
 
--- The refusal is a reply that is allowed, unless a read failed.
+-- The refusal is a reply that is allowed.
 abbrev pub Refuses : (Reply → Type 0) → Files → Refusal → Type 0
 Refuses allowed files refusals.Usage = allowed (record { status = statuses.Usage; printed = refusal_line refusals.Usage; files = files })
 Refuses allowed files (refusals.Absent name) = allowed (record { status = statuses.Absent; printed = refusal_line (refusals.Absent name); files = files })
-Refuses allowed files (refusals.ReadFault name) = ⊤
+Refuses allowed files (refusals.ReadFault name) = allowed (record { status = statuses.ReadFault; printed = refusal_line (refusals.ReadFault name); files = files })
 Refuses allowed files (refusals.TooLong name) = allowed (record { status = statuses.TooLong; printed = refusal_line (refusals.TooLong name); files = files })
 Refuses allowed files (refusals.ProgramRefused kind line) =
     allowed (record { status = statuses.ProgramRefused; printed = refusal_line (refusals.ProgramRefused kind line); files = files })
 Refuses allowed files (refusals.ScheduleRefused kind place) =
     allowed (record { status = statuses.ScheduleRefused; printed = refusal_line (refusals.ScheduleRefused kind place); files = files })
 
--- What stopped the work is a reply that is allowed, unless a read or memory failed.
+-- What stopped the work is a reply that is allowed, unless memory failed.
 abbrev pub Stops : (Reply → Type 0) → Files → Stop → Type 0
 Stops allowed files (Refused r) = Refuses allowed files r
 Stops allowed files Memory = ⊤

@@ -62,7 +62,7 @@ pub fn racetrace<C: Cabinet, O: Sink>(
     out: &mut O,
 ) -> Status
     // What is answered and printed, and what the files are then, is the answer that is defined for the
-    // words and the files that are told, unless the outside or memory failed.
+    // words and the files that are told, unless a write or memory failed.
     ensures answer { Answers (Answer (texts words.now)) (C.files files.old) (C.files files.new) (O.given out.old) (O.given out.new) result }
 
     // Usage comes exactly where no command has these words. Each refusal gives way to a write fault.
@@ -99,7 +99,7 @@ pub fn racetrace<C: Cabinet, O: Sink>(
     // WriteFault comes exactly where a put failed, and leaves a part, from its front, of what would have been printed.
     ensures write_fault { result ≡ Status.WriteFault → Rose (O.faults out.old) (O.faults out.new) }
     ensures no_write_fault { result ≢ Status.WriteFault → O.faults out.new ≡ O.faults out.old }
-    ensures part { result ≡ Status.WriteFault → PrintsPart (Answer (texts words.now)) (Fetches (texts words.now))
+    ensures part { result ≡ Status.WriteFault → PrintsPart (Answer (texts words.now))
         (C.read_faults files.old) (C.read_faults files.new) (C.files files.old) (O.given out.old) (O.given out.new) }
 
     // A refusal prints its one line, which names a file that the command needs, and want of memory nothing,
