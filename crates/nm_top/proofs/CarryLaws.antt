@@ -1,20 +1,20 @@
 -- What a command that was carried out answers.
-use Rattle.std.proofs.Common.{◌≡◌, ◌≢◌, ℕ, List, [], Bool, true, false, Option, None, Some, Ok, Err, IfSome, MatchOption, inl, inr, refl, sym, ◌∙◌, subst}
+use Rattle.std.proofs.Common.{◌≡◌, ◌≢◌, ℕ, List, take, Bool, true, false, Option, None, Some, Ok, Err, IfSome, MatchOption, inl, inr, refl, sym, ◌∙◌, subst}
 use Rattle.std.specs.Io.KnownBytes.{Appends}
 use Rattle.std.specs.Option.{IsSomeAnd}
 use Rattle.nm_outside.specs.Causes.{BelongsTo, Rose}
 use Rattle.nm_outside.specs.Files.{Files}
 use Rattle.report.specs.declared.cause.Refusal.TheVariants as refusals
-use Rattle.report.specs.Texts.{usage_line, read_fault_line}
+use Rattle.report.specs.Texts.{usage_line}
 use Rattle.nm_top.specs.declared.status.Status.{Status}
 use Rattle.nm_top.specs.declared.status.Status.TheVariants as statuses
-use Rattle.nm_top.specs.declared.stop.Stop.{Stop}
 use Rattle.nm_top.specs.declared.stop.Stop.TheVariants.{Refused, Memory}
 use Rattle.nm_top.specs.Commands.{Command, command_of}
 use Rattle.nm_top.specs.Needs.{IsNeeded}
 use Rattle.nm_top.specs.Answers.{CommandAnswer, Answer, Fetches, needs_of}
-use Rattle.nm_top.specs.Replies.{Reply, Says, Answers, PrintsPart}
-use Rattle.nm_top.specs.Stops.{Work, Works, Stops, Blames, IsOfText, is_absent_work, is_failed_work, Counts, Tells, Tries, Outside, outside, Carries, work_status, work_text}
+use Rattle.nm_top.specs.Replies.{Reply, Says, Answers, MayPrint, PrintsPart}
+use Rattle.nm_top.specs.Lines.{IsLineOf, PrintsLine}
+use Rattle.nm_top.specs.Stops.{Work, Works, Blames, is_absent_work, is_failed_work, Counts, Tells, Tries, Outside, outside, Carries, work_status, work_text}
 use Rattle.nm_top.specs.Does.{Does}
 
 -- ---- a command was carried out
@@ -40,21 +40,22 @@ gives : (allowed : Files → Reply → Type 0) (told left : Option Files) (work 
     → IfSome told (λ held. Works (allowed held) held work) → left ≡ told → Tells work before after was now status
     → Answers allowed told left before after status
 gives allowed None left work before after was now status works same told = tt
-gives allowed (Some held) left work before after was now status works same (inl failed) = inl (inr (inl failed.0))
+gives allowed (Some held) left work before after was now status works same (inl failed) = inl (inl failed.0)
 gives allowed (Some held) left (Ok text) before after was now status works same (inr told) =
     inr (_, works, record { answered = told.0; printed = told.2; left = same })
 gives allowed (Some held) left (Err (Refused refusals.Usage)) before after was now status works same (inr told) =
     inr (_, works, record { answered = told.0; printed = told.2; left = same })
 gives allowed (Some held) left (Err (Refused (refusals.Absent name))) before after was now status works same (inr told) =
     inr (_, works, record { answered = told.0; printed = told.2; left = same })
-gives allowed (Some held) left (Err (Refused (refusals.ReadFault name))) before after was now status works same (inr told) = inl (inl told.0)
+gives allowed (Some held) left (Err (Refused (refusals.ReadFault name))) before after was now status works same (inr told) =
+    inr (_, works, record { answered = told.0; printed = told.2; left = same })
 gives allowed (Some held) left (Err (Refused (refusals.TooLong name))) before after was now status works same (inr told) =
     inr (_, works, record { answered = told.0; printed = told.2; left = same })
 gives allowed (Some held) left (Err (Refused (refusals.ProgramRefused kind line))) before after was now status works same (inr told) =
     inr (_, works, record { answered = told.0; printed = told.2; left = same })
 gives allowed (Some held) left (Err (Refused (refusals.ScheduleRefused kind place))) before after was now status works same (inr told) =
     inr (_, works, record { answered = told.0; printed = told.2; left = same })
-gives allowed (Some held) left (Err Memory) before after was now status works same (inr told) = inl (inr (inr told.0))
+gives allowed (Some held) left (Err Memory) before after was now status works same (inr told) = inl (inr told.0)
 
 not_written : (work : Work) → work_status work ≢ statuses.WriteFault
 not_written (Ok text) e = absurd cc
@@ -67,19 +68,33 @@ not_written (Err (Refused (refusals.ScheduleRefused kind place))) e = absurd cc
 not_written (Err Memory) e = absurd cc
 
 -- after a failed put, a part of what is defined
-gives_part : (allowed : Files → Reply → Type 0) (fetches : List ℕ → Type 0) (told : Option Files) (work : Work) (before after : Option (List ℕ)) (was now : ℕ) (status : Status)
-    → IfSome told (λ held. Works (allowed held) held work) → Blames fetches work → Tells work before after was now status → status ≡ statuses.WriteFault
-    → PrintsPart allowed fetches told before after
-gives_part allowed fetches None work before after was now status works blamed told is = tt
-gives_part allowed fetches (Some held) work before after was now status works blamed (inr told) is = absurd (not_written work (sym told.0 ∙ is))
-gives_part allowed fetches (Some held) (Ok text) before after was now status works blamed (inl failed) is = (_, inl (_, works, refl), failed.3)
-gives_part allowed fetches (Some held) (Err (Refused refusals.Usage)) before after was now status works blamed (inl failed) is = (_, inl (_, works, refl), failed.3)
-gives_part allowed fetches (Some held) (Err (Refused (refusals.Absent name))) before after was now status works blamed (inl failed) is = (_, inl (_, works, refl), failed.3)
-gives_part allowed fetches (Some held) (Err (Refused (refusals.ReadFault name))) before after was now status works blamed (inl failed) is = (_, inr (_, blamed, refl), failed.3)
-gives_part allowed fetches (Some held) (Err (Refused (refusals.TooLong name))) before after was now status works blamed (inl failed) is = (_, inl (_, works, refl), failed.3)
-gives_part allowed fetches (Some held) (Err (Refused (refusals.ProgramRefused kind line))) before after was now status works blamed (inl failed) is = (_, inl (_, works, refl), failed.3)
-gives_part allowed fetches (Some held) (Err (Refused (refusals.ScheduleRefused kind place))) before after was now status works blamed (inl failed) is = (_, inl (_, works, refl), failed.3)
-gives_part allowed fetches (Some held) (Err Memory) before after was now status works blamed (inl failed) is = absurd failed.2
+module _ (allowed : Files → Reply → Type 0) (held : Files) (reply : Reply) (reads reads' : ℕ) (is : allowed held reply) where
+  prints_fault : reply.status ≡ statuses.ReadFault → Rose reads reads' → MayPrint allowed reads reads' held reply.printed
+  prints_fault e rose = (reply, is, refl, λ s. rose, λ n. absurd (n e))
+
+  prints_other : reply.status ≢ statuses.ReadFault → reads' ≡ reads → MayPrint allowed reads reads' held reply.printed
+  prints_other n still = (reply, is, refl, λ e. absurd (n e), λ m. still)
+
+gives_part : (allowed : Files → Reply → Type 0) (told : Option Files) (work : Work) (before after : Option (List ℕ)) (reads reads' was now : ℕ) (status : Status)
+    → IfSome told (λ held. Works (allowed held) held work) → BelongsTo (is_failed_work work) reads reads' → Tells work before after was now status → status ≡ statuses.WriteFault
+    → PrintsPart allowed reads reads' told before after
+gives_part allowed None work before after reads reads' was now status works count told is = tt
+gives_part allowed (Some held) work before after reads reads' was now status works count (inr told) is = absurd (not_written work (sym told.0 ∙ is))
+gives_part allowed (Some held) (Ok text) before after reads reads' was now status works count (inl failed) is =
+    (_, prints_other allowed held _ reads reads' works (λ e. absurd cc) count.still, failed.3)
+gives_part allowed (Some held) (Err (Refused refusals.Usage)) before after reads reads' was now status works count (inl failed) is =
+    (_, prints_other allowed held _ reads reads' works (λ e. absurd cc) count.still, failed.3)
+gives_part allowed (Some held) (Err (Refused (refusals.Absent name))) before after reads reads' was now status works count (inl failed) is =
+    (_, prints_other allowed held _ reads reads' works (λ e. absurd cc) count.still, failed.3)
+gives_part allowed (Some held) (Err (Refused (refusals.ReadFault name))) before after reads reads' was now status works count (inl failed) is =
+    (_, prints_fault allowed held _ reads reads' works refl count.rose, failed.3)
+gives_part allowed (Some held) (Err (Refused (refusals.TooLong name))) before after reads reads' was now status works count (inl failed) is =
+    (_, prints_other allowed held _ reads reads' works (λ e. absurd cc) count.still, failed.3)
+gives_part allowed (Some held) (Err (Refused (refusals.ProgramRefused kind line))) before after reads reads' was now status works count (inl failed) is =
+    (_, prints_other allowed held _ reads reads' works (λ e. absurd cc) count.still, failed.3)
+gives_part allowed (Some held) (Err (Refused (refusals.ScheduleRefused kind place))) before after reads reads' was now status works count (inl failed) is =
+    (_, prints_other allowed held _ reads reads' works (λ e. absurd cc) count.still, failed.3)
+gives_part allowed (Some held) (Err Memory) before after reads reads' was now status works count (inl failed) is = absurd failed.2
 
 -- the status of work
 is_absent : (P : List ℕ → Type 0) (work : Work) → Blames P work → work_status work ≡ statuses.Absent → is_absent_work work ≡ true
@@ -92,22 +107,25 @@ is_absent P (Err (Refused (refusals.ProgramRefused kind line))) blamed e = absur
 is_absent P (Err (Refused (refusals.ScheduleRefused kind place))) blamed e = absurd cc
 is_absent P (Err Memory) blamed e = absurd cc
 
--- the line of a read fault, of a file that was blamed
-pub record IsFaultOf (P : List ℕ → Type 0) (work : Work) : Type 0 where
-  pub failed : is_failed_work work ≡ true
-  pub name : List ℕ
-  pub blamed : P name
-  pub text : work_text work ≡ read_fault_line name
+is_failed : (P : List ℕ → Type 0) (work : Work) → Blames P work → work_status work ≡ statuses.ReadFault → is_failed_work work ≡ true
+is_failed P (Ok text) blamed e = absurd cc
+is_failed P (Err (Refused refusals.Usage)) blamed e = absurd cc
+is_failed P (Err (Refused (refusals.Absent name))) blamed e = absurd cc
+is_failed P (Err (Refused (refusals.ReadFault name))) blamed e = refl
+is_failed P (Err (Refused (refusals.TooLong name))) blamed e = absurd cc
+is_failed P (Err (Refused (refusals.ProgramRefused kind line))) blamed e = absurd cc
+is_failed P (Err (Refused (refusals.ScheduleRefused kind place))) blamed e = absurd cc
+is_failed P (Err Memory) blamed e = absurd cc
 
-is_fault_of : (P : List ℕ → Type 0) (work : Work) → Blames P work → work_status work ≡ statuses.ReadFault → IsFaultOf P work
-is_fault_of P (Ok text) blamed e = absurd cc
-is_fault_of P (Err (Refused refusals.Usage)) blamed e = absurd cc
-is_fault_of P (Err (Refused (refusals.Absent name))) blamed e = absurd cc
-is_fault_of P (Err (Refused (refusals.ReadFault name))) blamed e = record { failed = refl; name = name.now; blamed = blamed; text = refl }
-is_fault_of P (Err (Refused (refusals.TooLong name))) blamed e = absurd cc
-is_fault_of P (Err (Refused (refusals.ProgramRefused kind line))) blamed e = absurd cc
-is_fault_of P (Err (Refused (refusals.ScheduleRefused kind place))) blamed e = absurd cc
-is_fault_of P (Err Memory) blamed e = absurd cc
+is_no_absence : (P : List ℕ → Type 0) (work : Work) → Blames P work → work_status work ≢ statuses.Absent → is_absent_work work ≡ false
+is_no_absence P (Ok text) blamed n = refl
+is_no_absence P (Err (Refused refusals.Usage)) blamed n = refl
+is_no_absence P (Err (Refused (refusals.Absent name))) blamed n = absurd (n refl)
+is_no_absence P (Err (Refused (refusals.ReadFault name))) blamed n = refl
+is_no_absence P (Err (Refused (refusals.TooLong name))) blamed n = refl
+is_no_absence P (Err (Refused (refusals.ProgramRefused kind line))) blamed n = refl
+is_no_absence P (Err (Refused (refusals.ScheduleRefused kind place))) blamed n = refl
+is_no_absence P (Err Memory) blamed n = refl
 
 is_no_fault : (P : List ℕ → Type 0) (work : Work) → Blames P work → work_status work ≢ statuses.ReadFault → is_failed_work work ≡ false
 is_no_fault P (Ok text) blamed n = refl
@@ -129,15 +147,16 @@ is_no_usage P (Err (Refused (refusals.ProgramRefused kind line))) blamed e = abs
 is_no_usage P (Err (Refused (refusals.ScheduleRefused kind place))) blamed e = absurd cc
 is_no_usage P (Err Memory) blamed e = absurd cc
 
-is_silent : (work : Work) → work_status work ≡ statuses.WantOfMemory → work_text work ≡ []
-is_silent (Ok text) e = absurd cc
-is_silent (Err (Refused refusals.Usage)) e = absurd cc
-is_silent (Err (Refused (refusals.Absent name))) e = absurd cc
-is_silent (Err (Refused (refusals.ReadFault name))) e = absurd cc
-is_silent (Err (Refused (refusals.TooLong name))) e = absurd cc
-is_silent (Err (Refused (refusals.ProgramRefused kind line))) e = absurd cc
-is_silent (Err (Refused (refusals.ScheduleRefused kind place))) e = absurd cc
-is_silent (Err Memory) e = refl
+-- the line of work, about a file that was blamed
+has_line : (P : List ℕ → Type 0) (work : Work) → Blames P work → IsLineOf P (work_status work) (work_text work)
+has_line P (Ok text) blamed = tt
+has_line P (Err (Refused refusals.Usage)) blamed = refl
+has_line P (Err (Refused (refusals.Absent name))) blamed = (name.now, blamed, refl)
+has_line P (Err (Refused (refusals.ReadFault name))) blamed = (name.now, blamed, refl)
+has_line P (Err (Refused (refusals.TooLong name))) blamed = (name.now, blamed, refl)
+has_line P (Err (Refused (refusals.ProgramRefused kind line))) blamed = (kind.now, line, refl)
+has_line P (Err (Refused (refusals.ScheduleRefused kind place))) blamed = (kind.now, place, refl)
+has_line P (Err Memory) blamed = refl
 
 -- ---- what was told of work
 
@@ -153,6 +172,11 @@ module _ (work : Work) (before after : Option (List ℕ)) (was now : ℕ) (statu
   unwritten : Tells work before after was now status → status ≢ statuses.WriteFault → now ≡ was
   unwritten (inl failed) n = absurd (n failed.0)
   unwritten (inr told) n = told.1
+
+  prints_line : (P : List ℕ → Type 0) → IsLineOf P (work_status work) (work_text work) → Tells work before after was now status → PrintsLine P status before after
+  prints_line P line (inl failed) =
+      let part = failed.3 in (take part.0 (work_text work), subst (λ (s : Status). IsLineOf P s (take part.0 (work_text work))) (sym failed.0) tt, part.2)
+  prints_line P line (inr told) = (work_text work, subst (λ (s : Status). IsLineOf P s (work_text work)) (sym told.0) line, told.2)
 
   answered : Tells work before after was now status → status ≢ statuses.WriteFault → status ≡ work_status work
   answered (inl failed) n = absurd (n failed.0)
@@ -181,18 +205,17 @@ module _ (words : List (List ℕ)) (before after : Outside) (status : Status) wh
     no_command = λ none. absurd (some_none command is none);
     absent = λ e. rises (is_absent_work h.work) before.absents after.absents h.counts.absent
         (is_absent (IsNeeded (needs_of command)) h.work h.counts.blames (told_of h.work before.given after.given before.faults after.faults status statuses.Absent (λ k. absurd cc) h.tells e).0);
-    read_fault = λ e. rises (is_failed_work h.work) before.read_faults after.read_faults h.counts.failed (fault e).failed;
+    no_absent = λ n m. rests (is_absent_work h.work) before.absents after.absents h.counts.absent
+        (is_no_absence (IsNeeded (needs_of command)) h.work h.counts.blames (λ e. n (answered h.work before.given after.given before.faults after.faults status h.tells m ∙ e)));
+    read_fault = λ e. rises (is_failed_work h.work) before.read_faults after.read_faults h.counts.failed
+        (is_failed (IsNeeded (needs_of command)) h.work h.counts.blames (told_of h.work before.given after.given before.faults after.faults status statuses.ReadFault (λ k. absurd cc) h.tells e).0);
     no_read_fault = λ n m. rests (is_failed_work h.work) before.read_faults after.read_faults h.counts.failed
         (is_no_fault (IsNeeded (needs_of command)) h.work h.counts.blames (λ e. n (answered h.work before.given after.given before.faults after.faults status h.tells m ∙ e)));
-    fault_line = λ e.
-        let told = told_of h.work before.given after.given before.faults after.faults status statuses.ReadFault (λ k. absurd cc) h.tells e in
-        ((fault e).name, needed (fault e).name (fault e).blamed, subst (λ (t : List ℕ). Appends before.given after.given t) (fault e).text told.1);
     write_fault = written h.work before.given after.given before.faults after.faults status h.tells;
     no_write_fault = unwritten h.work before.given after.given before.faults after.faults status h.tells;
-    part = λ e. gives_part (Answer words) (Fetches words) before.files h.work before.given after.given before.faults after.faults status works (blames_of h.work h.counts.blames) h.tells e;
-    silent = λ e.
-        let told = told_of h.work before.given after.given before.faults after.faults status statuses.WantOfMemory (λ k. absurd cc) h.tells e in
-        subst (λ (t : List ℕ). Appends before.given after.given t) (is_silent h.work told.0) told.1;
+    part = λ e. gives_part (Answer words) before.files h.work before.given after.given before.read_faults after.read_faults before.faults after.faults status works h.counts.failed
+        h.tells e;
+    line = prints_line h.work before.given after.given before.faults after.faults status (Fetches words) (has_line (Fetches words) h.work (blames_of h.work h.counts.blames)) h.tells;
     files = h.files;
   }
     where
@@ -207,15 +230,11 @@ module _ (words : List (List ℕ)) (before after : Outside) (status : Status) wh
       blames_of (Ok text) b = tt
       blames_of (Err Memory) b = tt
       blames_of (Err (Refused refusals.Usage)) b = absurd b
-      blames_of (Err (Refused (refusals.Absent name))) b = tt
+      blames_of (Err (Refused (refusals.Absent name))) b = needed name.now b
       blames_of (Err (Refused (refusals.ReadFault name))) b = needed name.now b
-      blames_of (Err (Refused (refusals.TooLong name))) b = tt
+      blames_of (Err (Refused (refusals.TooLong name))) b = needed name.now b
       blames_of (Err (Refused (refusals.ProgramRefused kind line))) b = tt
       blames_of (Err (Refused (refusals.ScheduleRefused kind place))) b = tt
-
-      fault : status ≡ statuses.ReadFault → IsFaultOf (IsNeeded (needs_of command)) h.work
-      fault e = is_fault_of (IsNeeded (needs_of command)) h.work h.counts.blames (told_of h.work before.given after.given before.faults after.faults status statuses.ReadFault
-          (λ k. absurd cc) h.tells e).0
 
 -- no command has the words, and that was told
 module _ (words : List (List ℕ)) (F : Option Files) (a r : ℕ) (before after : Option (List ℕ)) (was now : ℕ) (status : Status) (none : command_of words ≡ None) where
@@ -228,14 +247,14 @@ module _ (words : List (List ℕ)) (F : Option Files) (a r : ℕ) (before after 
   is_answer : (held : Files) → Answer words held (said held)
   is_answer held = subst (λ (o : Option Command). MatchOption o (Says held statuses.Usage usage_line (said held)) (λ c. CommandAnswer c held (said held))) (sym none) refl
 
-  usage_part : (o : Option Files) → Tells usage before after was now status → status ≡ statuses.WriteFault → PrintsPart (Answer words) (Fetches words) o before after
+  usage_part : (o : Option Files) → Tells usage before after was now status → status ≡ statuses.WriteFault → PrintsPart (Answer words) r r o before after
   usage_part None t e = tt
-  usage_part (Some held) (inl failed) e = (usage_line, inl (said held, is_answer held, refl), failed.3)
+  usage_part (Some held) (inl failed) e = (usage_line, prints_other (Answer words) held (said held) r r (is_answer held) (λ e. absurd cc) refl, failed.3)
   usage_part (Some held) (inr t) e = absurd (not_written usage (sym t.0 ∙ e))
 
   answers : (o : Option Files) → Tells usage before after was now status → Answers (Answer words) o o before after status
   answers None t = tt
-  answers (Some held) (inl failed) = inl (inr (inl failed.0))
+  answers (Some held) (inl failed) = inl (inl failed.0)
   answers (Some held) (inr t) = inr (said held, is_answer held, record { answered = t.0; printed = t.2; left = refl })
 
   pub does_usage : Tells usage before after was now status → Does words (outside F a r before was) (outside F a r after now) status
@@ -244,12 +263,12 @@ module _ (words : List (List ℕ)) (F : Option Files) (a r : ℕ) (before after 
     usage = λ e. none;
     no_command = λ n. elim told [ inl failed ↦ inr failed.0 | inr t ↦ inl t.0 ];
     absent = λ e. let t = (told_of usage before after was now status statuses.Absent (λ k. absurd cc) told e).0 in absurd cc;
+    no_absent = λ n m. refl;
     read_fault = λ e. let t = (told_of usage before after was now status statuses.ReadFault (λ k. absurd cc) told e).0 in absurd cc;
     no_read_fault = λ n m. refl;
-    fault_line = λ e. let t = (told_of usage before after was now status statuses.ReadFault (λ k. absurd cc) told e).0 in absurd cc;
     write_fault = written usage before after was now status told;
     no_write_fault = unwritten usage before after was now status told;
     part = usage_part F told;
-    silent = λ e. let t = (told_of usage before after was now status statuses.WantOfMemory (λ k. absurd cc) told e).0 in absurd cc;
+    line = prints_line usage before after was now status (Fetches words) refl told;
     files = refl;
   }

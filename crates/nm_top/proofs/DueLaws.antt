@@ -11,24 +11,23 @@ use Rattle.nm_top.specs.declared.status.Status.TheVariants.{Done, Usage, Absent,
 use Rattle.nm_top.specs.Commands.{Command, Run, command_of}
 use Rattle.nm_top.specs.Programs.{Reads}
 use Rattle.nm_top.specs.Schedules.{IsSchedule}
-use Rattle.nm_top.specs.Replies.{Reply, Says, Fetching, Reading, Answers, IsOrLacksMemory}
+use Rattle.nm_top.specs.Replies.{Reply, Says, Fetching, Reading, Answers, Owed}
 use Rattle.nm_top.specs.Needs.{Need, ProgramText, ScheduleText, name_of, limit_of, Admits, refusal_of, IsMissing, IsPastLimit, IsRefused, IsMet, AreMet, IsDue}
 use Rattle.nm_top.specs.RunAnswers.{RunAnswer, RefusesProgram, RefusesSchedule, ReadingSchedule, run_of_program}
 use Rattle.nm_top.specs.Answers.{CommandAnswer, Answer, needs_of, Due, Ready}
-use Rattle.nm_outside.specs.Causes.{Rose}
 use Rattle.nm_top.specs.Stops.{Outside}
 use Rattle.nm_top.specs.Does.{Does}
 use Rattle.nm_top.proofs.FileLaws.{Follows}
 
 -- ---- what comes of needs, in their order
 
--- a need that isn't met, and its status
+-- a need that isn't met though it was read, and its status
 Head : Need → Files → Status → Type 0
 Head need held status = (IsMissing need held × (status ≡ Absent)) ⊎ ((IsPastLimit need held × (status ≡ TooLong)) ⊎ IsRefused status need held)
 
 Comes : Files → List Need → Status → Type 0
 Comes held [] status = status ≡ Done
-Comes held (need ∷ needs) status = Head need held status ⊎ (IsMet need held × Comes held needs status)
+Comes held (need ∷ needs) status = (status ≡ ReadFault) ⊎ (Head need held status ⊎ (IsMet need held × Comes held needs status))
 
 module _ {X : Type 0} (need : Need) (reads : List ℕ → X → Type 0) (held : Files) (refuses : List ℕ → Reply → Type 0) (then : X → Reply → Type 0)
     (meant : (text : List ℕ) → (x : X) × reads text x → Admits need text) (back : (text : List ℕ) → Admits need text → (x : X) × reads text x)
@@ -44,15 +43,17 @@ module _ {X : Type 0} (need : Need) (reads : List ℕ → X → Type 0) (held : 
         there o P e p = subst (λ (x : Option (List ℕ)). IsSomeAnd x P) (sym e) p
 
         read : (text : List ℕ) → get held (name_of need) ≡ Some text → length text ≤ limit_of need → Reading (reads text) (refuses text) then reply → Comes held (need ∷ needs) reply.status
-        read text e few (inl r) = inr (there (Some text) (λ t. (length t ≤ limit_of need) × Admits need t) e (few, meant text (r.0, r.1)), rest r.0 r.2)
+        read text e few (inl r) = inr (inr (there (Some text) (λ t. (length t ≤ limit_of need) × Admits need t) e (few, meant text (r.0, r.1)), rest r.0 r.2))
         read text e few (inr r) =
-            inl (inr (inr (sym (told text reply r.1), there (Some text) (λ t. (length t ≤ limit_of need) × (Admits need t → ⊥)) e (few, λ m. let x = back text m in r.0 x.0 x.1))))
+            inr (inl (inr (inr (sym (told text reply r.1), there (Some text) (λ t. (length t ≤ limit_of need) × (Admits need t → ⊥)) e (few, λ m. let x = back text m in r.0 x.0 x.1)))))
 
         by : (o : Option (List ℕ)) → get held (name_of need) ≡ o → Follows o held (name_of need) (limit_of need) (λ text. Reading (reads text) (refuses text) then) reply
             → Comes held (need ∷ needs) reply.status
-        by None e says = inl (inl (subst IsNone (sym e) refl, ap (λ (r : Reply). r.status) says))
-        by (Some text) e (inl w) = read text e w.0 w.1
-        by (Some text) e (inr w) = inl (inr (inl (there (Some text) (λ t. limit_of need < length t) e w.0, ap (λ (r : Reply). r.status) w.1)))
+        by None e (inl fault) = inl (ap (λ (r : Reply). r.status) fault)
+        by None e (inr says) = inr (inl (inl (subst IsNone (sym e) refl, ap (λ (r : Reply). r.status) says)))
+        by (Some text) e (inl fault) = inl (ap (λ (r : Reply). r.status) fault)
+        by (Some text) e (inr (inl w)) = read text e w.0 w.1
+        by (Some text) e (inr (inr w)) = inr (inl (inr (inl (there (Some text) (λ t. limit_of need < length t) e w.0, ap (λ (r : Reply). r.status) w.1))))
 
 comes_run : (program : List ℕ) (n : ℕ) (schedule : List ℕ) (held : Files) (reply : Reply) → RunAnswer program n schedule held reply → Comes held (needs_of (Run program n schedule)) reply.status
 unfolding Comes
@@ -68,13 +69,14 @@ comes (Run program n schedule) held reply h = comes_run program n schedule held 
 
 -- ---- the need that is due
 
--- where a status isn't Done, what its need says is due
+-- where a status is neither Done nor ReadFault, what its need says is due
 due_of : (P : Need → Files → Type 0) (held : Files) (needs : List Need) (status : Status) → ((need : Need) → Head need held status → P need held) → status ≢ Done
-    → Comes held needs status → IsDue P needs held
+    → status ≢ ReadFault → Comes held needs status → IsDue P needs held
 unfolding Comes
-due_of P held [] status f n h = absurd (n h)
-due_of P held (need ∷ needs) status f n (inl h) = inl (f need h)
-due_of P held (need ∷ needs) status f n (inr h) = inr (h.0, due_of P held needs status f n h.1)
+due_of P held [] status f n r h = absurd (n h)
+due_of P held (need ∷ needs) status f n r (inl h) = absurd (r h)
+due_of P held (need ∷ needs) status f n r (inr (inl h)) = inl (f need h)
+due_of P held (need ∷ needs) status f n r (inr (inr h)) = inr (h.0, due_of P held needs status f n r h.1)
 
 -- texts that meet a need, that pass its limit, and that it doesn't admit
 abbrev Meets : Need → List ℕ → Type 0
@@ -103,19 +105,21 @@ unmet need held status (inr (inr h)) m = let b = both (Fails need) (Meets need) 
 -- what is due decides the status
 settled : (P : Need → Files → Type 0) (held : Files) (S : Status) → ((need : Need) (status : Status) → P need held → Head need held status → status ≡ S) → ((need : Need) → P need held
     → IsMet need held → ⊥)
-    → (needs : List Need) (status : Status) → IsDue P needs held → Comes held needs status → status ≡ S
+    → (needs : List Need) (status : Status) → status ≢ ReadFault → IsDue P needs held → Comes held needs status → status ≡ S
 unfolding Comes
-settled P held S f g [] status d h = absurd d
-settled P held S f g (need ∷ needs) status (inl p) (inl h) = f need status p h
-settled P held S f g (need ∷ needs) status (inl p) (inr h) = absurd (g need p h.0)
-settled P held S f g (need ∷ needs) status (inr d) (inl h) = absurd (unmet need held status h d.0)
-settled P held S f g (need ∷ needs) status (inr d) (inr h) = settled P held S f g needs status d.1 h.1
+settled P held S f g [] status r d h = absurd d
+settled P held S f g (need ∷ needs) status r d (inl h) = absurd (r h)
+settled P held S f g (need ∷ needs) status r (inl p) (inr (inl h)) = f need status p h
+settled P held S f g (need ∷ needs) status r (inl p) (inr (inr h)) = absurd (g need p h.0)
+settled P held S f g (need ∷ needs) status r (inr d) (inr (inl h)) = absurd (unmet need held status h d.0)
+settled P held S f g (need ∷ needs) status r (inr d) (inr (inr h)) = settled P held S f g needs status r d.1 h.1
 
-all_met : (held : Files) (needs : List Need) (status : Status) → AreMet needs held → Comes held needs status → status ≡ Done
+all_met : (held : Files) (needs : List Need) (status : Status) → status ≢ ReadFault → AreMet needs held → Comes held needs status → status ≡ Done
 unfolding Comes
-all_met held [] status m h = h
-all_met held (need ∷ needs) status m (inl h) = absurd (unmet need held status h m.0)
-all_met held (need ∷ needs) status m (inr h) = all_met held needs status m.1 h.1
+all_met held [] status r m h = h
+all_met held (need ∷ needs) status r m (inl h) = absurd (r h)
+all_met held (need ∷ needs) status r m (inr (inl h)) = absurd (unmet need held status h m.0)
+all_met held (need ∷ needs) status r m (inr (inr h)) = all_met held needs status r m.1 h.1
 
 -- ---- each status by its need
 
@@ -185,13 +189,12 @@ module _ (words : List (List ℕ)) (before after : Outside) (status : Status) (d
       of_reply : (held : Files) (o : Option Command) (reply : Reply) → reply.status ≡ S → MatchOption o (Says held Usage usage_line reply) (λ c. CommandAnswer c held reply)
           → IsSomeAnd o (λ c. IsDue P (needs_of c) held)
       of_reply held None reply is says = absurd (defined.no_usage (sym is ∙ ap (λ (r : Reply). r.status) says))
-      of_reply held (Some c) reply is h = due_of P held (needs_of c) S (f held) defined.no_done (subst (Comes held (needs_of c)) is (comes c held reply h))
+      of_reply held (Some c) reply is h = due_of P held (needs_of c) S (f held) defined.no_done defined.no_read_fault (subst (Comes held (needs_of c)) is (comes c held reply h))
 
       by : (o : Option Files) → Answers (Answer words) o after.files before.given after.given status → IfSome o (Due P words)
       by None h = tt
-      by (Some held) (inl (inl k)) = absurd (defined.no_read_fault (sym e ∙ k))
-      by (Some held) (inl (inr (inl k))) = absurd (defined.no_write_fault (sym e ∙ k))
-      by (Some held) (inl (inr (inr k))) = absurd (defined.no_want (sym e ∙ k))
+      by (Some held) (inl (inl k)) = absurd (defined.no_write_fault (sym e ∙ k))
+      by (Some held) (inl (inr k)) = absurd (defined.no_want (sym e ∙ k))
       by (Some held) (inr h) = of_reply held (command_of words) h.0 (sym h.2.answered ∙ e) h.1
 
   pub absent_due : status ≡ Absent → IfSome before.files (Due IsMissing words)
@@ -216,31 +219,30 @@ module _ (words : List (List ℕ)) (before after : Outside) (status : Status) (d
 
 -- what is due is answered, where nothing failed
 module _ (words : List (List ℕ)) (before after : Outside) (status : Status) (d : Does words before after status) where
-  decided : (Q : Command → Files → Type 0) (S : Status) → ((c : Command) (held : Files) (reply : Reply) → Q c held → Comes held (needs_of c) reply.status → reply.status ≡ S)
-      → IfSome before.files (λ held. IsSomeAnd (command_of words) (λ c. Q c held) → ¬ Rose before.read_faults after.read_faults → ¬ Rose before.faults after.faults → IsOrLacksMemory S status)
+  decided : (Q : Command → Files → Type 0) (S : Status) → ((c : Command) (held : Files) (reply : Reply) → reply.status ≢ ReadFault → Q c held → Comes held (needs_of c) reply.status → reply.status ≡ S)
+      → IfSome before.files (λ held. IsSomeAnd (command_of words) (λ c. Q c held) → Owed S before.read_faults after.read_faults before.faults after.faults status)
   decided Q S f = by before.files d.answer
     where
-      of_reply : (held : Files) (o : Option Command) (reply : Reply) → IsSomeAnd o (λ c. Q c held) → MatchOption o (Says held Usage usage_line reply) (λ c. CommandAnswer c held reply)
+      of_reply : (held : Files) (o : Option Command) (reply : Reply) → reply.status ≢ ReadFault → IsSomeAnd o (λ c. Q c held) → MatchOption o (Says held Usage usage_line reply) (λ c. CommandAnswer c held reply)
           → reply.status ≡ S
-      of_reply held None reply q h = absurd q
-      of_reply held (Some c) reply q h = f c held reply q (comes c held reply h)
+      of_reply held None reply n q h = absurd q
+      of_reply held (Some c) reply n q h = f c held reply n q (comes c held reply h)
 
       by : (o : Option Files) → Answers (Answer words) o after.files before.given after.given status
-          → IfSome o (λ held. IsSomeAnd (command_of words) (λ c. Q c held) → ¬ Rose before.read_faults after.read_faults → ¬ Rose before.faults after.faults → IsOrLacksMemory S status)
+          → IfSome o (λ held. IsSomeAnd (command_of words) (λ c. Q c held) → Owed S before.read_faults after.read_faults before.faults after.faults status)
       by None a = tt
-      by (Some held) (inl (inl k)) = λ q r w. absurd (r (d.read_fault k))
-      by (Some held) (inl (inr (inl k))) = λ q r w. absurd (w (d.write_fault k))
-      by (Some held) (inl (inr (inr k))) = λ q r w. inr k
-      by (Some held) (inr h) = λ q r w. inl (h.2.answered ∙ of_reply held (command_of words) h.0 q h.1)
+      by (Some held) (inl (inl k)) = λ q r w. absurd (w (d.write_fault k))
+      by (Some held) (inl (inr k)) = λ q r w. inr k
+      by (Some held) (inr h) = λ q r w. inl (h.2.answered ∙ of_reply held (command_of words) h.0 (λ e. r (d.read_fault (h.2.answered ∙ e))) q h.1)
 
-  pub lacking : IfSome before.files (λ held. Due IsMissing words held → ¬ Rose before.read_faults after.read_faults → ¬ Rose before.faults after.faults → IsOrLacksMemory Absent status)
+  pub lacking : IfSome before.files (λ held. Due IsMissing words held → Owed Absent before.read_faults after.read_faults before.faults after.faults status)
   lacking = decided (λ c. IsDue IsMissing (needs_of c)) Absent (λ c held reply. settled IsMissing held Absent (missing_head held) (missing_unmet held) (needs_of c) reply.status)
 
-  pub past_limit : IfSome before.files (λ held. Due IsPastLimit words held → ¬ Rose before.read_faults after.read_faults → ¬ Rose before.faults after.faults → IsOrLacksMemory TooLong status)
+  pub past_limit : IfSome before.files (λ held. Due IsPastLimit words held → Owed TooLong before.read_faults after.read_faults before.faults after.faults status)
   past_limit = decided (λ c. IsDue IsPastLimit (needs_of c)) TooLong (λ c held reply. settled IsPastLimit held TooLong (long_head held) (long_unmet held) (needs_of c) reply.status)
 
-  pub refused : (S : Status) → IfSome before.files (λ held. Due (IsRefused S) words held → ¬ Rose before.read_faults after.read_faults → ¬ Rose before.faults after.faults → IsOrLacksMemory S status)
+  pub refused : (S : Status) → IfSome before.files (λ held. Due (IsRefused S) words held → Owed S before.read_faults after.read_faults before.faults after.faults status)
   refused S = decided (λ c. IsDue (IsRefused S) (needs_of c)) S (λ c held reply. settled (IsRefused S) held S (refused_head S held) (refused_unmet S held) (needs_of c) reply.status)
 
-  pub ready : IfSome before.files (λ held. Ready words held → ¬ Rose before.read_faults after.read_faults → ¬ Rose before.faults after.faults → IsOrLacksMemory Done status)
+  pub ready : IfSome before.files (λ held. Ready words held → Owed Done before.read_faults after.read_faults before.faults after.faults status)
   ready = decided (λ c. AreMet (needs_of c)) Done (λ c held reply. all_met held (needs_of c) reply.status)

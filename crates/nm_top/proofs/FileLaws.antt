@@ -8,9 +8,9 @@ use Rattle.nm_outside.specs.Files.{Files}
 use Rattle.c_tree.specs.declared.program.Program.{Program}
 use Rattle.schedules.specs.declared.schedule.Turn.{Turn}
 use Rattle.report.specs.declared.cause.Refusal.TheVariants as refusals
-use Rattle.report.specs.Texts.{absent_line}
+use Rattle.report.specs.Texts.{absent_line, read_fault_line}
 use Rattle.report.specs.Runs.{blocks}
-use Rattle.nm_top.specs.declared.status.Status.TheVariants.{Done, Absent}
+use Rattle.nm_top.specs.declared.status.Status.TheVariants.{Done, Absent, ReadFault}
 use Rattle.nm_top.specs.declared.stop.Stop.{Stop}
 use Rattle.nm_top.specs.declared.stop.Stop.TheVariants.{Refused, Memory}
 use Rattle.nm_top.specs.Programs.{Reads, program_limit}
@@ -26,7 +26,8 @@ use Rattle.nm_top.proofs.ProgramLaws.{only_program}
 
 -- the reply where a file is needed
 abbrev pub Follows : Option (List ℕ) → Files → List ℕ → ℕ → (List ℕ → Reply → Type 0) → Reply → Type 0
-Follows file held name limit then reply = MatchOption file (Says held Absent (absent_line name) reply) (λ bytes. Within held name limit then bytes reply)
+Follows file held name limit then reply =
+    Says held ReadFault (read_fault_line name) reply ⊎ MatchOption file (Says held Absent (absent_line name) reply) (λ bytes. Within held name limit then bytes reply)
 
 -- ---- what follows from a text that was fetched
 
@@ -36,13 +37,13 @@ module _ (file : Option (List ℕ)) (limit : ℕ) (got shown : List ℕ) (there 
     where
       by : (o : Option (List ℕ)) → IsSomeAnd o (λ bytes. got ≡ bytes) → Follows o held name limit then reply
       by None h = absurd h
-      by (Some bytes) h = inl (subst (λ (b : List ℕ). length b ≤ limit) h few, subst (λ (b : List ℕ). then b reply) (same ∙ h) p)
+      by (Some bytes) h = inr (inl (subst (λ (b : List ℕ). length b ≤ limit) h few, subst (λ (b : List ℕ). then b reply) (same ∙ h) p))
 
 -- a text that is held says what follows
 goes_on : (file : Option (List ℕ)) (held : Files) (name : List ℕ) (limit : ℕ) (P : List ℕ → Type 0) (then : List ℕ → Reply → Type 0) (reply : Reply)
     → IsSomeAnd file (λ text. (length text ≤ limit) × P text) → ((text : List ℕ) → P text → then text reply) → Follows file held name limit then reply
 goes_on None held name limit P then reply h f = absurd h
-goes_on (Some bytes) held name limit P then reply h f = inl (h.0, f bytes h.1)
+goes_on (Some bytes) held name limit P then reply h f = inr (inl (h.0, f bytes h.1))
 
 program_on : (held : Files) (name : List ℕ) (p : Program) (then : Program → Reply → Type 0) (reply : Reply) → Holds (ProgramText name) (λ text. Reads text p) held → then p reply
     → ReadingProgram held name then reply
@@ -58,9 +59,11 @@ schedule_on held name n turns then reply h next =
 -- a reply is allowed where more is
 allows : (file : Option (List ℕ)) (held : Files) (name : List ℕ) (limit : ℕ) (some more : List ℕ → Reply → Type 0) (reply : Reply) → ((text : List ℕ) → some text reply → more text reply)
     → Follows file held name limit some reply → Follows file held name limit more reply
-allows None held name limit some more reply f h = h
-allows (Some bytes) held name limit some more reply f (inl h) = inl (h.0, f bytes h.1)
-allows (Some bytes) held name limit some more reply f (inr h) = inr h
+allows None held name limit some more reply f (inl h) = inl h
+allows None held name limit some more reply f (inr h) = inr h
+allows (Some bytes) held name limit some more reply f (inl h) = inl h
+allows (Some bytes) held name limit some more reply f (inr (inl h)) = inr (inl (h.0, f bytes h.1))
+allows (Some bytes) held name limit some more reply f (inr (inr h)) = inr (inr h)
 
 reads_on : {X : Type 0} (reads : X → Type 0) (otherwise : Reply → Type 0) (then : X → Reply → Type 0) (reply : Reply) → Reading reads otherwise Nothing reply → Reading reads otherwise then reply
 reads_on reads otherwise then reply (inl h) = absurd h.2
@@ -71,7 +74,7 @@ reads_on reads otherwise then reply (inr h) = inr h
 stops_as : (some more : Reply → Type 0) → ((reply : Reply) → some reply → more reply) → (held : Files) (stop : Stop) → Stops some held stop → Stops more held stop
 stops_as some more f held (Refused refusals.Usage) h = f _ h
 stops_as some more f held (Refused (refusals.Absent name)) h = f _ h
-stops_as some more f held (Refused (refusals.ReadFault name)) h = tt
+stops_as some more f held (Refused (refusals.ReadFault name)) h = f _ h
 stops_as some more f held (Refused (refusals.TooLong name)) h = f _ h
 stops_as some more f held (Refused (refusals.ProgramRefused kind line)) h = f _ h
 stops_as some more f held (Refused (refusals.ScheduleRefused kind place)) h = f _ h

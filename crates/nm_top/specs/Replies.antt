@@ -1,7 +1,8 @@
 -- Replies: what a call answers, prints and leaves. Forms for saying which replies are allowed.
-use Rattle.std.specs.Prelude.{◌≡◌, ◌⊎◌, ℕ, ◌≤◌, ◌<◌, length, List, Option, Some, None, MatchOption, ⊤}
+use Rattle.std.specs.Prelude.{◌≡◌, ◌≢◌, ◌⊎◌, ℕ, ◌≤◌, ◌<◌, length, List, Option, Some, None, MatchOption, ⊤}
 use Rattle.std.specs.FinMap.{get}
 use Rattle.std.specs.Io.KnownBytes.{Appends}
+use Rattle.nm_outside.specs.Causes.{Rose}
 use Rattle.nm_outside.specs.Files.{Files, AppendsPart}
 use Rattle.report.specs.Texts.{absent_line, read_fault_line, too_long_line}
 use Rattle.nm_top.specs.declared.status.Status.{Status}
@@ -21,10 +22,11 @@ abbrev pub Within : Files → List ℕ → ℕ → (List ℕ → Reply → Type 
 Within files name limit then bytes reply =
     ((length bytes ≤ limit) × then bytes reply) ⊎ ((limit < length bytes) × Says files TooLong (too_long_line name) reply)
 
--- A file of at most so many bytes is needed: it is absent, or it passes the limit, or its bytes say what follows.
+-- A file of at most so many bytes is needed: its read fails, or it is absent, or it passes the limit, or its bytes say what follows.
 abbrev pub Fetching : Files → List ℕ → ℕ → (List ℕ → Reply → Type 0) → Reply → Type 0
 Fetching files name limit then reply =
-    MatchOption (get files name) (Says files Absent (absent_line name) reply) (λ bytes. Within files name limit then bytes reply)
+    Says files ReadFault (read_fault_line name) reply
+    ⊎ MatchOption (get files name) (Says files Absent (absent_line name) reply) (λ bytes. Within files name limit then bytes reply)
 
 -- A text is read: it reads as some value, which says what follows, or as none.
 abbrev pub Reading : {X : Type 0} → (X → Type 0) → (Reply → Type 0) → (X → Reply → Type 0) → Reply → Type 0
@@ -36,9 +38,9 @@ pub record Gave (reply : Reply) (files : Option Files) (before after : Option (L
   pub printed : Appends before after reply.printed
   pub left : files ≡ Some reply.files
 
--- The outside failed, or memory did, and that was answered in the place of what is defined.
+-- A write failed, or there was want of memory, and that was answered in the place of what is defined.
 abbrev pub FellShort : Status → Type 0
-FellShort status = (status ≡ ReadFault) ⊎ (status ≡ WriteFault) ⊎ (status ≡ WantOfMemory)
+FellShort status = (status ≡ WriteFault) ⊎ (status ≡ WantOfMemory)
 
 -- Where the files are told, a call gave a reply that is allowed for them, or fell short of one.
 abbrev pub Answers : (Files → Reply → Type 0) → Option Files → Option Files → Option (List ℕ) → Option (List ℕ) → Status → Type 0
@@ -46,20 +48,16 @@ Answers allowed None files before after status = ⊤
 Answers allowed (Some held) files before after status =
     FellShort status ⊎ ((reply : Reply) × allowed held reply × Gave reply files before after status)
 
--- What may be printed: the text of a reply that is allowed, or the line of a read fault.
-abbrev pub MayPrint : (Files → Reply → Type 0) → (List ℕ → Type 0) → Files → List ℕ → Type 0
-MayPrint allowed fetches held text =
-    ((reply : Reply) × allowed held reply × (text ≡ reply.printed)) ⊎ ((name : List ℕ) × fetches name × (text ≡ read_fault_line name))
+-- What may be printed: the text of a reply that is allowed, whose status is ReadFault exactly where a read failed.
+abbrev pub MayPrint : (Files → Reply → Type 0) → ℕ → ℕ → Files → List ℕ → Type 0
+MayPrint allowed was now held text =
+    (reply : Reply) × allowed held reply × (text ≡ reply.printed) × (reply.status ≡ ReadFault → Rose was now) × (reply.status ≢ ReadFault → now ≡ was)
 
 -- Where the files are told, a part of what may be printed was given, from its front.
-abbrev pub PrintsPart : (Files → Reply → Type 0) → (List ℕ → Type 0) → Option Files → Option (List ℕ) → Option (List ℕ) → Type 0
-PrintsPart allowed fetches None before after = ⊤
-PrintsPart allowed fetches (Some held) before after = (text : List ℕ) × MayPrint allowed fetches held text × AppendsPart before after text
+abbrev pub PrintsPart : (Files → Reply → Type 0) → ℕ → ℕ → Option Files → Option (List ℕ) → Option (List ℕ) → Type 0
+PrintsPart allowed was now None before after = ⊤
+PrintsPart allowed was now (Some held) before after = (text : List ℕ) × MayPrint allowed was now held text × AppendsPart before after text
 
--- The line of a read fault was given, and nothing else.
-abbrev pub PrintsFault : (List ℕ → Type 0) → Option (List ℕ) → Option (List ℕ) → Type 0
-PrintsFault fetches before after = (name : List ℕ) × fetches name × Appends before after (read_fault_line name)
-
--- The status is this one, or there was want of memory.
-abbrev pub IsOrLacksMemory : Status → Status → Type 0
-IsOrLacksMemory due status = (status ≡ due) ⊎ (status ≡ WantOfMemory)
+-- Where no read and no write failed, the status is this one, or there was want of memory.
+abbrev pub Owed : Status → ℕ → ℕ → ℕ → ℕ → Status → Type 0
+Owed due read_faults read_faults' faults faults' status = ¬ Rose read_faults read_faults' → ¬ Rose faults faults' → (status ≡ due) ⊎ (status ≡ WantOfMemory)

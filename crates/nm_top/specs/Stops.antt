@@ -63,12 +63,12 @@ is_failed_work (Ok x) = false
 is_failed_work (Err (Refused r)) = is_fault r
 is_failed_work (Err Memory) = false
 
--- The refusal is an answer to a command whose files these are: no usage, and a read fault is that of a file of which this holds.
+-- The refusal is an answer to a command whose files these are: no usage, and what it says of a file itself is said of one of which this holds.
 abbrev pub IsOf : (List ℕ → Type 0) → Refusal → Type 0
 IsOf P refusals.Usage = ⊥
-IsOf P (refusals.Absent name) = ⊤
+IsOf P (refusals.Absent name) = P name.now
 IsOf P (refusals.ReadFault name) = P name.now
-IsOf P (refusals.TooLong name) = ⊤
+IsOf P (refusals.TooLong name) = P name.now
 IsOf P (refusals.ProgramRefused kind line) = ⊤
 IsOf P (refusals.ScheduleRefused kind place) = ⊤
 
@@ -77,18 +77,18 @@ Blames P (Ok x) = ⊤
 Blames P (Err (Refused r)) = IsOf P r
 Blames P (Err Memory) = ⊤
 
--- The refusal is a reply that is allowed, unless a read failed.
+-- The refusal is a reply that is allowed.
 abbrev pub Refuses : (Reply → Type 0) → Files → Refusal → Type 0
 Refuses allowed files refusals.Usage = allowed (record { status = statuses.Usage; printed = refusal_line refusals.Usage; files = files })
 Refuses allowed files (refusals.Absent name) = allowed (record { status = statuses.Absent; printed = refusal_line (refusals.Absent name); files = files })
-Refuses allowed files (refusals.ReadFault name) = ⊤
+Refuses allowed files (refusals.ReadFault name) = allowed (record { status = statuses.ReadFault; printed = refusal_line (refusals.ReadFault name); files = files })
 Refuses allowed files (refusals.TooLong name) = allowed (record { status = statuses.TooLong; printed = refusal_line (refusals.TooLong name); files = files })
 Refuses allowed files (refusals.ProgramRefused kind line) =
     allowed (record { status = statuses.ProgramRefused; printed = refusal_line (refusals.ProgramRefused kind line); files = files })
 Refuses allowed files (refusals.ScheduleRefused kind place) =
     allowed (record { status = statuses.ScheduleRefused; printed = refusal_line (refusals.ScheduleRefused kind place); files = files })
 
--- What stopped the work is a reply that is allowed, unless a read or memory failed.
+-- What stopped the work is a reply that is allowed, unless memory failed.
 abbrev pub Stops : (Reply → Type 0) → Files → Stop → Type 0
 Stops allowed files (Refused r) = Refuses allowed files r
 Stops allowed files Memory = ⊤
@@ -133,7 +133,7 @@ abbrev pub Tries : List ℕ → Option (List ℕ) → Option (List ℕ) → ℕ 
 Tries text before after was now status = Tells (Ok text) before after was now status ⊎ Tells (Err Memory) before after was now status
 
 -- What a part of the work that answers this does to the counts of absent files and of read faults: each rose where the
--- answer says so, and stands still where it doesn't. A read fault is that of a file of which P holds.
+-- answer says so, and stands still where it doesn't. What is said of a file is said of one of which P holds.
 pub record Counts {X : Type 0} (P : List ℕ → Type 0) (absents absents' faults faults' : ℕ) (result : Result X Stop) : Type 0 where
   pub blames : Blames P result
   pub absent : BelongsTo (is_absent_work result) absents absents'

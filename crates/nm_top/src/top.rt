@@ -1,11 +1,11 @@
 //! The top call.
 
-ghost use Rattle.std.specs.Prelude.{◌≡◌, ◌≢◌, ◌⊎◌, IfSome, None, []};
-ghost use Rattle.std.specs.Io.KnownBytes.{Appends};
+ghost use Rattle.std.specs.Prelude.{◌≡◌, ◌≢◌, ◌⊎◌, IfSome, None};
 ghost use Rattle.nm_outside.specs.Causes.{Rose};
 ghost use Rattle.nm_top.specs.Commands.{command_of, texts};
 ghost use Rattle.nm_top.specs.Named.{IsInRange, named};
-ghost use Rattle.nm_top.specs.Replies.{Answers, IsOrLacksMemory, PrintsFault, PrintsPart};
+ghost use Rattle.nm_top.specs.Replies.{Answers, Owed, PrintsPart};
+ghost use Rattle.nm_top.specs.Lines.{PrintsLine};
 ghost use Rattle.nm_top.specs.Needs.{IsMissing, IsPastLimit, IsRefused};
 ghost use Rattle.nm_top.specs.Answers.{Answer, Due, Fetches, Ready};
 ghost use Rattle.nm_top.specs.Stops.{Carries, outside};
@@ -62,52 +62,53 @@ pub fn racetrace<C: Cabinet, O: Sink>(
     out: &mut O,
 ) -> Status
     // What is answered and printed, and what the files are then, is the answer that is defined for the
-    // words and the files that are told, unless the outside or memory failed.
+    // words and the files that are told, unless a write or memory failed.
     ensures answer { Answers (Answer (texts words.now)) (C.files files.old) (C.files files.new) (O.given out.old) (O.given out.new) result }
 
     // Usage comes exactly where no command has these words. Each refusal gives way to a write fault.
     ensures usage { result ≡ Status.Usage → command_of (texts words.now) ≡ None }
     ensures no_command { command_of (texts words.now) ≡ None → (result ≡ Status.Usage) ⊎ (result ≡ Status.WriteFault) }
 
-    // Absent comes only where a file wasn't found: exactly where the files that are told lack the one
-    // that is due, and no fault came.
+    // Absent comes exactly where a file wasn't found: where the files are told, that is where they lack the
+    // one that is due.
     ensures absent { result ≡ Status.Absent → Rose (C.absents files.old) (C.absents files.new) }
+    ensures no_absent { result ≢ Status.Absent → result ≢ Status.WriteFault → C.absents files.new ≡ C.absents files.old }
     ensures absent_due { result ≡ Status.Absent → IfSome (C.files files.old) (Due IsMissing (texts words.now)) }
     ensures lacking { IfSome (C.files files.old) (λ held. Due IsMissing (texts words.now) held
-        → ¬ Rose (C.read_faults files.old) (C.read_faults files.new) → ¬ Rose (O.faults out.old) (O.faults out.new) → IsOrLacksMemory Status.Absent result) }
+        → Owed Status.Absent (C.read_faults files.old) (C.read_faults files.new) (O.faults out.old) (O.faults out.new) result) }
 
-    // ReadFault comes exactly where a read failed, and prints its line alone.
+    // ReadFault comes exactly where a read failed.
     ensures read_fault { result ≡ Status.ReadFault → Rose (C.read_faults files.old) (C.read_faults files.new) }
     ensures no_read_fault { result ≢ Status.ReadFault → result ≢ Status.WriteFault → C.read_faults files.new ≡ C.read_faults files.old }
-    ensures fault_line { result ≡ Status.ReadFault → PrintsFault (Fetches (texts words.now)) (O.given out.old) (O.given out.new) }
 
-    // TooLong comes exactly where the file that is due passes its limit, and no fault came.
+    // TooLong comes exactly where the file that is due passes its limit.
     ensures too_long { result ≡ Status.TooLong → IfSome (C.files files.old) (Due IsPastLimit (texts words.now)) }
     ensures past_limit { IfSome (C.files files.old) (λ held. Due IsPastLimit (texts words.now) held
-        → ¬ Rose (C.read_faults files.old) (C.read_faults files.new) → ¬ Rose (O.faults out.old) (O.faults out.new) → IsOrLacksMemory Status.TooLong result) }
+        → Owed Status.TooLong (C.read_faults files.old) (C.read_faults files.new) (O.faults out.old) (O.faults out.new) result) }
 
-    // ProgramRefused comes exactly where the text that is due is to be a program's and has none, and no fault came.
+    // ProgramRefused comes exactly where the text that is due is to be a program's and has none.
     ensures program_refused { result ≡ Status.ProgramRefused → IfSome (C.files files.old) (Due (IsRefused Status.ProgramRefused) (texts words.now)) }
     ensures no_program { IfSome (C.files files.old) (λ held. Due (IsRefused Status.ProgramRefused) (texts words.now) held
-        → ¬ Rose (C.read_faults files.old) (C.read_faults files.new) → ¬ Rose (O.faults out.old) (O.faults out.new) → IsOrLacksMemory Status.ProgramRefused result) }
+        → Owed Status.ProgramRefused (C.read_faults files.old) (C.read_faults files.new) (O.faults out.old) (O.faults out.new) result) }
 
-    // ScheduleRefused comes exactly where the text that is due is to be a schedule's and names no turns, and no fault came.
+    // ScheduleRefused comes exactly where the text that is due is to be a schedule's and names no turns.
     ensures schedule_refused { result ≡ Status.ScheduleRefused → IfSome (C.files files.old) (Due (IsRefused Status.ScheduleRefused) (texts words.now)) }
     ensures no_schedule { IfSome (C.files files.old) (λ held. Due (IsRefused Status.ScheduleRefused) (texts words.now) held
-        → ¬ Rose (C.read_faults files.old) (C.read_faults files.new) → ¬ Rose (O.faults out.old) (O.faults out.new) → IsOrLacksMemory Status.ScheduleRefused result) }
+        → Owed Status.ScheduleRefused (C.read_faults files.old) (C.read_faults files.new) (O.faults out.old) (O.faults out.new) result) }
 
-    // WriteFault comes exactly where a put failed, and leaves a part of the text from its front.
+    // WriteFault comes exactly where a put failed, and leaves a part, from its front, of what would have been printed.
     ensures write_fault { result ≡ Status.WriteFault → Rose (O.faults out.old) (O.faults out.new) }
     ensures no_write_fault { result ≢ Status.WriteFault → O.faults out.new ≡ O.faults out.old }
-    ensures part { result ≡ Status.WriteFault
-        → PrintsPart (Answer (texts words.now)) (Fetches (texts words.now)) (C.files files.old) (O.given out.old) (O.given out.new) }
+    ensures part { result ≡ Status.WriteFault → PrintsPart (Answer (texts words.now))
+        (C.read_faults files.old) (C.read_faults files.new) (C.files files.old) (O.given out.old) (O.given out.new) }
 
-    // Want of memory prints nothing.
-    ensures silent { result ≡ Status.WantOfMemory → Appends (O.given out.old) (O.given out.new) [] }
+    // A refusal prints its one line, which names a file that the command needs, and want of memory nothing,
+    // also where the files aren't told.
+    ensures line { PrintsLine (Fetches (texts words.now)) result (O.given out.old) (O.given out.new) }
 
-    // A command that has all that it needs is done, where no fault came and memory was there.
+    // A command that has all that it needs is done.
     ensures complete { IfSome (C.files files.old) (λ held. Ready (texts words.now) held
-        → ¬ Rose (C.read_faults files.old) (C.read_faults files.new) → ¬ Rose (O.faults out.old) (O.faults out.new) → IsOrLacksMemory Status.Done result) }
+        → Owed Status.Done (C.read_faults files.old) (C.read_faults files.new) (O.faults out.old) (O.faults out.new) result) }
 
     // The files stay as they are.
     ensures files { C.files files.new ≡ C.files files.old }
