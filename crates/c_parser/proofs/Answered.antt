@@ -27,6 +27,9 @@ is_that ts items height rest tree e u =
     let same : ((items, height), rest) ≡ ((tree.items, unit_height tree), []) = cc in
     ap (λ (y : (List Item × ℕ) × List Token). record { items = y.0.0 }) same
 
+pub same_tree : (ts : List Token) (a b : Tree) → UnitOf ts a → UnitOf ts b → a ≡ b
+same_tree ts a b u w = is_that ts a.items (unit_height a) [] b (unit_full ts a u) w
+
 pub no_unit : (ts : List Token) (f : Failure) → read_items ts ≡ Err f → IsNoUnit ts
 no_unit ts f e tree u = let g = unit_full ts tree u in cc
 

@@ -61,9 +61,6 @@ module _ {A : Type 0} (stops : List Token → Option (List Token)) (item : Reade
   abbrev nothing : List Token → Read A
   nothing rest = Ok (([], 0), rest)
 
-  pub repeats_begin : (ts : List Token) → Repeats [] 0 ts (repeated stops item (length ts + 1) ts)
-  repeats_begin ts = (length ts + 1, omega arith, front_nothing (repeated stops item (length ts + 1) ts))
-
   pub repeats_end : (before : List A) (height : ℕ) (ts rest : List Token) (all : Read A) → stops ts ≡ Some rest → Repeats before height ts all → all ≡ Ok ((before, height), rest)
   unfolding repeated
   repeats_end before height ts rest all found (zero, lt, e) = absurd (omega (arith, lt))

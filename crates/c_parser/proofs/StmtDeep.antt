@@ -37,7 +37,7 @@ use Rattle.c_parser.proofs.Deep.{Deeps, deeps_ok, deeps_wrong, deeps_bind, deeps
 use Rattle.c_parser.proofs.Nesting.{costs_token}
 use Rattle.c_parser.proofs.StmtMoves.{moves_mark, moves_key, moves_any_key, moves_name, moves_expr, moves_any, moves_type, moves_declr, moves_vars, moves_label}
 use Rattle.c_parser.proofs.StmtMoves.{moves_labels, moves_stmt, moves_each, moves_arm}
-use Rattle.c_parser.proofs.StmtSound.{key_takes, part_sound, condition_sound, optional_sound, declr_shape, vars_shape}
+use Rattle.c_parser.proofs.StmtSound.{key_takes, condition_sound, optional_sound, declr_shape, vars_shape}
 use Rattle.c_parser.proofs.StmtSound.{label_shape, arm_shape, declarator_sound, local_sound, locals_sound, label_sound, labels_sound, stmt_sound, arm_sound, name_is, type_is}
 use Rattle.c_parser.proofs.UnitSound.{param_shape, item_shape, parameter_sound, parameters_sound, item_sound}
 use Rattle.c_parser.proofs.UnitFull.{moves_param, moves_params, moves_item}
@@ -87,9 +87,6 @@ type_falls ts x e = let f = (moves_type x.0).nests ts x.1 (type_is ts x e) in om
 
 key_falls : (l : Key) (ts us : List Token) → key l ts ≡ Some us → nesting us ≤ nesting ts
 key_falls l ts us e = let f = (moves_any_key l).nests ts us e in omega (arith, f)
-
-part_falls : (limit level : ℕ) (ts : List Token) (x : Operand × List Token) → level ≤ 14 → read_expr limit level ts ≡ Ok x → nesting x.1 ≤ nesting ts
-part_falls limit level ts x le e = let p = (part_sound limit level ts le).of x e in let f = (moves_expr x.0.expr).nests ts x.1 p.walks in omega (arith, f)
 
 condition_falls : (limit : ℕ) (ts : List Token) (x : Operand × List Token) → condition limit ts ≡ Ok x → nesting x.1 ≤ nesting ts
 condition_falls limit ts x e =

@@ -9,3 +9,4 @@ pub mod Unit
 pub mod ReadStmt
 pub mod ReadUnit
 pub mod Faults
+pub mod Law

@@ -90,6 +90,7 @@ pub fn unboxed(part: Option<Boxed<Expr>>) -> Option<Expr>
     }
 }
 
+/// A declarator, and the height of its part.
 #[tactic(auto, unfolding(crate::specs::ReadStmt::declarator))]
 fn declarator(alloc: Global, tokens: &[Token], limit: u8) -> Result<(Declr, u8, &[Token]), Refusal>
     ensures value { Gives (λ x. ((x.0, x.1), x.2.now)) result (spec.declarator limit tokens.now) }

@@ -16,6 +16,7 @@ pub enum ParseFault {
     /// An item is nested too deeply. The line is that of a token that nests.
     #[error("line {line}: nested too deeply")]
     Deep { line: u32 },
+    /// Memory was refused.
     #[error("out of memory")]
     Memory,
 }

@@ -4,6 +4,7 @@
 mod decl;
 mod expr;
 mod fault;
+mod law;
 mod operators;
 mod parser;
 mod stmt;
@@ -11,6 +12,7 @@ mod tokens;
 mod unit;
 
 pub use fault::ParseFault;
+pub use law::one_tree;
 pub use parser::parse;
 pub use unit::MAX_HEIGHT;
 

@@ -68,7 +68,7 @@ pub fn optional(
     Ok((some, rest))
 }
 
-// ---- nodes
+// ---- nodes, each in a box of its own
 
 /// The height of what has parts of these heights.
 fn above(a: u8, b: u8) -> u8
@@ -285,6 +285,7 @@ fn case_of(
     Ok((label, value.height, rest))
 }
 
+/// A label, and the height of its constant or 0.
 #[tactic(auto, unfolding(crate::specs::ReadStmt::label))]
 fn label(alloc: Global, tokens: &[Token], limit: u8) -> Result<(Label, u8, &[Token]), Refusal>
     ensures value { Gives (λ x. ((x.0, x.1), x.2.now)) result (spec.label limit tokens.now) }

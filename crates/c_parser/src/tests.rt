@@ -2,7 +2,7 @@ ghost use Rattle.std.specs.Prelude.{◌≤◌, length};
 
 use crate::{ParseFault, parse};
 use c_lexer::{MAX_SOURCE_LEN, lex};
-use std::alloc::Global;
+use std::alloc::{AllocError, Global};
 use std::test::Fail;
 
 /// Whether the text has a tree, or why not. A text that the lexer refuses is no row.
@@ -72,22 +72,148 @@ fn rows(rt: HostRuntime) {
     }
 }
 
-/// `return` of a 0 in so many pairs of parentheses.
+/// Texts in which a later token is the first that no unit has there, or the last one, and its line.
+#[test]
+fn syntax_lines(rt: HostRuntime) {
+    let rows: [(&[u8], u32); 27] = [
+        (b"void a\n;", 2),
+        (b"void\nint a;", 2),
+        (b"int\n", 1),
+        (b"int\na", 2),
+        (b"int a\nb;", 2),
+        (b"int a[1]\n= 2;", 2),
+        (b"int a = 1,\nint b;", 2),
+        (b"int f(void\n, int a);", 2),
+        (b"int f(int a,\n);", 2),
+        (b"int f(int)\n{ }", 2),
+        (b"int f(void)\nint g(void);", 2),
+        (b"int f(void) {\n;\n", 2),
+        (b"int f(void) {\n}\n}", 3),
+        (b"int f(void) { return 0\n}", 2),
+        (b"int f(void) { ;\nint a; }", 2),
+        (b"int f(void) { if (1) ; else ;\nelse ; }", 2),
+        (b"int f(void) { do ;\n(1); }", 2),
+        (b"int f(void) { for (;;\n;) ; }", 2),
+        (b"int f(void) { switch (1)\ncase 1: ; }", 2),
+        (b"int f(void) { switch (1) {\n; } }", 2),
+        (b"int f(void) { switch (1) { case 1:\n} }", 2),
+        (b"int f(void) { switch (1) { case 1\n, 2: ; } }", 2),
+        (b"int f(void) { ;\ndefault: ; }", 2),
+        (b"int f(void) { a + b\n= c; }", 2),
+        (b"int f(void) { a ? b\n; }", 2),
+        (b"int f(void) { a[b\n; }", 2),
+        (b"int f(void) { g(\"a\"\n\"b\"); }", 2),
+    ];
+    for (text, line) in rows {
+        assert!(rt; text.len() <= MAX_SOURCE_LEN);
+        let want = Some(ParseFault::Syntax { line });
+        assert_eq!(rt; answer(rt.alloc(), text), want, "{text:?}");
+    }
+}
+
+/// A text with its middle between so many openings and as many closings.
+fn nested(alloc: Global, parts: [&[u8]; 5], count: u16) -> Result<Vec<u8>, AllocError> {
+    let [before, opening, middle, closing, behind] = parts;
+    let mut text = Vec::from_slice(alloc, before)?;
+    for _ in 0..count {
+        text.extend_from_slice(opening)?;
+    }
+    text.extend_from_slice(middle)?;
+    for _ in 0..count {
+        text.extend_from_slice(closing)?;
+    }
+    text.extend_from_slice(behind)?;
+    Ok(text)
+}
+
+/// Constructs one in another, and how many of them a unit may have there: with one more an item is higher than 64.
 #[test]
 fn depths(rt: HostRuntime) -> Result<(), Fail> {
+    let rows: [([&[u8]; 5], u8); 26] = [
+        ([b"int main(void) { return ", b"(", b"0", b")", b"; }"], 61),
+        ([b"int f(void) { f(", b"(", b"0", b")", b"); }"], 60),
+        ([b"int f(void) { return ", b"~", b"0", b"", b"; }"], 61),
+        ([b"int f(void) { return ", b"++", b"a", b"", b"; }"], 61),
+        ([b"int f(void) { return a", b"--", b"", b"", b"; }"], 61),
+        ([b"int f(void) { return 0", b"+0", b"", b"", b"; }"], 61),
+        ([b"int f(void) { return 0", b"&&0", b"", b"", b"; }"], 61),
+        ([b"int f(void) { return 0", b"||0", b"", b"", b"; }"], 61),
+        ([b"int f(void) { return 0", b",0", b"", b"", b"; }"], 61),
+        ([b"int f(void) { return ", b"a=", b"0", b"", b"; }"], 61),
+        ([b"int f(void) { return ", b"0?", b"0", b":0", b"; }"], 61),
+        ([b"int f(void) { return ", b"a[", b"0", b"]", b"; }"], 61),
+        ([b"int f(void) { return ", b"f(", b"", b")", b"; }"], 62),
+        ([b"int f(void) { ", b"f(", b"\"a\"", b")", b"; }"], 61),
+        ([b"int f(void) {", b"{", b"", b"}", b"}"], 63),
+        ([b"int f(void) { ", b"if (0) ", b";", b"", b" }"], 62),
+        ([b"int f(void) { ", b"if (0) ; else ", b";", b"", b" }"], 62),
+        ([b"int f(void) { ", b"while (0) ", b";", b"", b" }"], 62),
+        ([b"int f(void) { ", b"do ", b";", b" while (0);", b" }"], 62),
+        ([b"int f(void) { ", b"for (;;) ", b";", b"", b" }"], 62),
+        (
+            [
+                b"int f(void) { ",
+                b"switch (0) { case 0: ",
+                b";",
+                b" }",
+                b" }",
+            ],
+            62,
+        ),
+        (
+            [
+                b"int f(void) { switch (0) { case ",
+                b"(",
+                b"0",
+                b")",
+                b": ; } }",
+            ],
+            61,
+        ),
+        ([b"int f(void) { int a[", b"(", b"0", b")", b"]; }"], 62),
+        ([b"int f(int a[", b"(", b"0", b")", b"]);"], 63),
+        ([b"int a[", b"(", b"0", b")", b"];"], 63),
+        ([b"int a = ", b"(", b"0", b")", b";"], 63),
+    ];
     let deep = Some(ParseFault::Deep { line: 1 });
-    for (pairs, want) in [(0, None), (61, None), (62, deep), (5_000, deep)] {
-        let mut text = Vec::from_slice(rt.alloc(), b"int main(void) { return ")?;
-        for _ in 0..pairs {
-            text.push(b'(')?;
+    for (parts, greatest) in rows {
+        let greatest = u16::from(greatest);
+        for (count, want) in [(greatest, None), (greatest + 1, deep)] {
+            let text = nested(rt.alloc(), parts, count)?;
+            assert!(rt; text.len() <= MAX_SOURCE_LEN);
+            assert_eq!(rt; answer(rt.alloc(), &text), want, "{count}: {text:?}");
         }
-        text.push(b'0')?;
-        for _ in 0..pairs {
-            text.push(b')')?;
-        }
-        text.extend_from_slice(b"; }")?;
+    }
+    Ok(())
+}
+
+/// Openings of which each stands on a line of its own, after the first line: the depth is refused at the line of the
+/// last one before what is too deep, or at its own line where it nests.
+#[test]
+fn deep_lines(rt: HostRuntime) -> Result<(), Fail> {
+    let rows: [([&[u8]; 5], u16, u32); 4] = [
+        (
+            [b"int f(void) { return\n", b"(\n", b"0", b")", b"; }"],
+            62,
+            63,
+        ),
+        (
+            [b"int f(void) { return\n", b"(\n", b"0", b")", b"; }"],
+            5_000,
+            64,
+        ),
+        ([b"int f(void) {\n", b"{\n", b"", b"}", b"}"], 64, 65),
+        (
+            [b"int f(void) { return 0\n", b"+0\n", b"", b"", b"; }"],
+            62,
+            63,
+        ),
+    ];
+    for (parts, count, line) in rows {
+        let text = nested(rt.alloc(), parts, count)?;
         assert!(rt; text.len() <= MAX_SOURCE_LEN);
-        assert_eq!(rt; answer(rt.alloc(), &text), want, "{pairs}");
+        let want = Some(ParseFault::Deep { line });
+        assert_eq!(rt; answer(rt.alloc(), &text), want, "{count}: {parts:?}");
     }
     Ok(())
 }

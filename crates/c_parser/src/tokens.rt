@@ -20,12 +20,14 @@ pub fn higher(a: u8, b: u8) -> u8
     a.max(b)
 }
 
+/// The grammar is broken where these tokens begin.
 pub fn wrong(tokens: &[Token]) -> Refusal
     ensures { result ≡ Refusal.Syntax (length tokens.now) }
 {
     Refusal::Syntax { left: tokens.len() }
 }
 
+/// The height is passed where these tokens begin.
 pub fn too_deep(tokens: &[Token]) -> Refusal
     ensures { result ≡ Refusal.Deep (length tokens.now) }
 {
@@ -53,6 +55,7 @@ pub fn after(tokens: &[Token], mark: Mark) -> Option<&[Token]>
     }
 }
 
+/// The tokens after a mark that has to come next.
 pub fn expect(tokens: &[Token], mark: Mark) -> Result<&[Token], Refusal>
     ensures value { Gives (λ x. x.now) result (spec.expect mark tokens.now) }
     ensures shorter { IfOk result (λ x. length x.now < length tokens.now) }
@@ -101,6 +104,7 @@ pub fn join_at(tokens: &[Token], level: u8) -> Option<(Join, &[Token])>
     }
 }
 
+/// What the next token means before an operand, if it may stand there, and the tokens after it.
 pub fn prefix_at(tokens: &[Token]) -> Option<(Prefix, &[Token])>
     ensures value { Finds (λ x. (x.0, x.1.now)) result (spec.at_mark prefix_of tokens.now) }
     ensures shorter { IfSome result (λ x. length x.1.now < length tokens.now) }
@@ -109,6 +113,7 @@ pub fn prefix_at(tokens: &[Token]) -> Option<(Prefix, &[Token])>
     Some((prefix_of(mark)?, rest))
 }
 
+/// Whether `++` comes next, or else `--`, and the tokens after it.
 pub fn suffix_at(tokens: &[Token]) -> Option<(bool, &[Token])>
     ensures value { Finds (λ x. (x.0, x.1.now)) result (spec.at_mark suffix_of tokens.now) }
     ensures shorter { IfSome result (λ x. length x.1.now < length tokens.now) }
@@ -152,6 +157,7 @@ pub fn after_key(tokens: &[Token], key: Key) -> Option<&[Token]>
     }
 }
 
+/// The tokens after a keyword that has to come next.
 pub fn expect_key(tokens: &[Token], key: Key) -> Result<&[Token], Refusal>
     ensures value { Gives (λ x. x.now) result (expect_key key tokens.now) }
     ensures shorter { IfOk result (λ x. length x.now < length tokens.now) }
@@ -175,7 +181,7 @@ pub fn name_at(alloc: Global, tokens: &[Token]) -> Result<Option<(Bytes, &[Token
     }
 }
 
-/// The name that comes next.
+/// The name that has to come next, and the tokens after it.
 pub fn expect_name(alloc: Global, tokens: &[Token]) -> Result<(Bytes, &[Token]), Refusal>
     ensures value { Gives (λ x. (x.0, x.1.now)) result (expect_name tokens.now) }
     ensures shorter { IfOk result (λ x. length x.1.now < length tokens.now) }

@@ -1,6 +1,6 @@
 //! Items and units.
 
-ghost use Rattle.std.specs.Prelude.{◌≡◌, ◌+◌, ◌<◌, ◌≤◌, [], length, max, IfOk};
+ghost use Rattle.std.specs.Prelude.{◌≡◌, ◌+◌, ◌<◌, ◌≤◌, [], length, max, IfOk, Some};
 ghost use Rattle.c_parser.specs.Reader.{Gives};
 ghost use Rattle.c_parser.specs.Unit as tree;
 ghost use Rattle.c_parser.specs.ReadStmt as list;
@@ -20,7 +20,7 @@ use nm_base::{Bytes, Ctype, List};
 use sqlite_items::Boxed;
 use std::alloc::Global;
 
-/// No item is higher.
+/// The greatest height of an item: no item of a tree that [`crate::parse`] answers is higher.
 pub const MAX_HEIGHT: u8 = 64;
 
 /// The brackets of an array, if they come next: whether they do, the size and its height or 0.
@@ -64,6 +64,7 @@ fn param_of(
     Ok((param, height, rest))
 }
 
+/// A parameter, and the height of its size or 0.
 #[tactic(auto, unfolding(crate::specs::ReadUnit::parameter))]
 fn parameter(alloc: Global, tokens: &[Token]) -> Result<(Param, u8, &[Token]), Refusal>
     ensures value { Gives (λ x. ((x.0, x.1), x.2.now)) result (spec.parameter tokens.now) }
@@ -192,26 +193,19 @@ fn function_of(
     headed(alloc, head, high, rest)
 }
 
-/// Variables of a type, of which `void` is none.
+/// Variables of a type, from the first name on.
 #[tactic(auto, unfolding(crate::specs::ReadUnit::vars_of))]
-fn vars_of(
-    alloc: Global,
-    of: Option<Ctype>,
-    tokens: &[Token],
-) -> Result<(Item, u8, &[Token]), Refusal>
-    ensures value { Gives (λ x. ((x.0, x.1), x.2.now)) result (spec.vars_of of tokens.now) }
+fn vars_of(alloc: Global, of: Ctype, tokens: &[Token]) -> Result<(Item, u8, &[Token]), Refusal>
+    ensures value { Gives (λ x. ((x.0, x.1), x.2.now)) result (spec.vars_of (Some of) tokens.now) }
     ensures height { IfOk result (λ x. x.1 ≤ 64) }
     ensures shorter { IfOk result (λ x. length x.2.now < length tokens.now) }
 {
-    let Some(of) = of else {
-        return Err(wrong(tokens));
-    };
     let (vars, high, rest) = declarations(alloc, of, tokens, MAX_HEIGHT)?;
     Ok((Item::Vars(vars), high.max(1), rest))
 }
 
-/// An item, after its type or after `void`.
-#[tactic(auto, unfolding(crate::specs::ReadUnit::item_of))]
+/// An item, after its type or after `void`, of which there are functions alone.
+#[tactic(auto, unfolding(crate::specs::ReadUnit::item_of, crate::specs::ReadUnit::vars_of))]
 fn item_of(
     alloc: Global,
     of: Option<Ctype>,
@@ -223,12 +217,16 @@ fn item_of(
 {
     let line = line_at(tokens);
     let (name, rest) = expect_name(alloc, tokens)?;
-    match after(rest, Mark::LeftParen) {
-        Some(rest) => function_of(alloc, of, name, line, rest),
-        None => vars_of(alloc, of, tokens),
+    if let Some(rest) = after(rest, Mark::LeftParen) {
+        return function_of(alloc, of, name, line, rest);
+    }
+    match of {
+        Some(of) => vars_of(alloc, of, tokens),
+        None => Err(wrong(rest)),
     }
 }
 
+/// The item that comes next, and its height.
 #[tactic(auto, unfolding(crate::specs::ReadUnit::read_item))]
 fn item(alloc: Global, tokens: &[Token]) -> Result<(Item, u8, &[Token]), Refusal>
     ensures value { Gives (λ x. ((x.0, x.1), x.2.now)) result (spec.read_item tokens.now) }
