@@ -9,7 +9,8 @@ pub returns-then-has_default : goal.returns-then-has_default
 returns-then-has_default c =
     let sh = shape_of c.args.scope.now in
     let has = ap (list_any is_default) (sym c.as_slice.ensures) ∙ sym c.has_default.ensures ∙ c.if-has_default.true in
-    sym (default_here sh c.args.arms.now c.loop-arm.arm-index c.loop-arm.start c.arm-item.result c.loop-arm-test.true c.arm-item.is has) ∙ c.loop-arm.invariant
+    let here = sym (default_here sh c.args.arms.now c.loop-arm.arm-index c.loop-arm.start c.arm-item.result c.loop-arm-test.true c.arm-item.is has) ∙ c.loop-arm.invariant in
+    search (here)
 
 pub loop-arm-preserved : goal.loop-arm-preserved
 loop-arm-preserved c =
