@@ -29,14 +29,14 @@ use Rattle.std.proofs.Common.{
   append_assoc,
   append-nil,
 }
-use Rattle.std.specs.Prelude.{⊤}
+use Rattle.std.specs.Prelude.{⊤, is_err, true}
 use Rattle.std.specs.Result.{IsErr}
 use Rattle.std.specs.Io.KnownBytes.{Appends}
 use Rattle.std.proofs.KnownBytes.{Appends-trans}
 use Rattle.std.proofs.lemmas.List.{take-append-drop, drop_more}
 use Rattle.nm_outside.proofs.Parts.{part_given}
 use Rattle.nm_outside.specs.declared.cabinet.Failed.{Failed}
-use Rattle.nm_outside.specs.Causes.{Rose}
+use Rattle.nm_outside.specs.Causes.{Rose, BelongsTo}
 use Rattle.report.specs.Printing.{Prints, joined}
 
 appends_none : (a : Option (List ℕ)) → Appends a a []
@@ -82,6 +82,17 @@ failed_on a b f g x r (Ok done) e is fails h = cc
 -- the first of two texts was given, and what the second did is the answer
 pub both : (a b c : Option (List ℕ)) (f g h : ℕ) (x y : List ℕ) (r s : Result ⊤ Failed) → r ≡ Ok tt → Prints a b f g x r → Prints b c g h y s → Prints a c f h (x ++ y) s
 both a b c f g h x y r s is one two = prints_more a b c f g h x y s (subst (Prints a b f g x) is one) two
+
+-- no fault was counted where a text was given
+pub still_after : {was now : ℕ} (r : Result ⊤ Failed) → r ≡ Ok tt → BelongsTo (is_err r) was now → now ≡ was
+still_after (Ok done) is h = h.still
+still_after (Err e) is h = cc
+
+-- a fault that is handed on was counted
+pub failed_after : {old was now : ℕ} (r s : Result ⊤ Failed) (e : Failed) → r ≡ Err e → IsErr s → was ≡ old → BelongsTo (is_err r) was now → BelongsTo (is_err s) old now
+failed_after {now = now} (Err e') (Err f) e is fails same h = subst (λ n. BelongsTo true n now) same h
+failed_after (Ok done) s e is fails same h = cc
+failed_after (Err e') (Ok done) e is fails same h = cc
 
 -- ---- pieces
 

@@ -1,9 +1,10 @@
 //! The blocks of a run.
 
-ghost use Rattle.std.specs.Prelude.{◌≡◌, ◌<◌, List, length};
+ghost use Rattle.std.specs.Prelude.{◌≡◌, ◌<◌, List, length, is_err};
 ghost use Rattle.c_tree.specs.declared.program.Program.{Program};
 ghost use Rattle.event_list.specs.declared.Event.{Event as Made};
 ghost use Rattle.event_list.specs.Events.{taken};
+ghost use Rattle.nm_outside.specs.Causes.{BelongsTo};
 ghost use Rattle.report.specs.Printing.{Prints};
 ghost use Rattle.report.specs.Runs as runs;
 ghost use Rattle.report.specs.Runs.{RunsProgram, block_of, all_blocks};
@@ -24,8 +25,9 @@ fn put_block<'c, M: Mail, O: Sink>(
     p: ProcNo,
 ) -> Result<(), Failed>
     requires { p.no < length world.now.processes }
-    ensures { (program : Program) (E : List Made) → RunsProgram ⟦<CProc<'c> as Proc>⟧.stands_for ⟦<CProc<'c> as Proc>⟧.name_of ⟦<CProc<'c> as Proc>⟧.origin_of M.letters world.now program E
+    ensures text { (program : Program) (E : List Made) → RunsProgram ⟦<CProc<'c> as Proc>⟧.stands_for ⟦<CProc<'c> as Proc>⟧.name_of ⟦<CProc<'c> as Proc>⟧.origin_of M.letters world.now program E
         → Prints (O.given out.old) (O.given out.new) (O.faults out.old) (O.faults out.new) (block_of program (length world.now.processes) E p.no) result }
+    ensures cause { BelongsTo (is_err result) (O.faults out.old) (O.faults out.new) }
 {
     let process = world.seat(p).process();
     let look = process.look();
@@ -35,8 +37,9 @@ fn put_block<'c, M: Mail, O: Sink>(
 
 // The blocks in order of the processes' numbers.
 fn put_blocks<'c, M: Mail, O: Sink>(out: &mut O, world: &World<CProc<'c>, M>) -> Result<(), Failed>
-    ensures { (program : Program) (E : List Made) → RunsProgram ⟦<CProc<'c> as Proc>⟧.stands_for ⟦<CProc<'c> as Proc>⟧.name_of ⟦<CProc<'c> as Proc>⟧.origin_of M.letters world.now program E
+    ensures text { (program : Program) (E : List Made) → RunsProgram ⟦<CProc<'c> as Proc>⟧.stands_for ⟦<CProc<'c> as Proc>⟧.name_of ⟦<CProc<'c> as Proc>⟧.origin_of M.letters world.now program E
         → Prints (O.given out.old) (O.given out.new) (O.faults out.old) (O.faults out.new) (all_blocks program (length world.now.processes) E) result }
+    ensures cause { BelongsTo (is_err result) (O.faults out.old) (O.faults out.new) }
 {
     for p in 0..world.n() {
         put_block(out, world, ProcNo { no: p })?;
@@ -60,8 +63,9 @@ fn accepted<'c, M: Mail>(world: &World<CProc<'c>, M>) -> u32
 /// The blocks of all processes in order of their numbers, and the summary. A letter that was sent
 /// and not accepted waits.
 pub fn blocks<'c, M: Mail, O: Sink>(out: &mut O, world: &World<CProc<'c>, M>) -> Result<(), Failed>
-    ensures { (program : Program) (E : List Made) → RunsProgram ⟦<CProc<'c> as Proc>⟧.stands_for ⟦<CProc<'c> as Proc>⟧.name_of ⟦<CProc<'c> as Proc>⟧.origin_of M.letters world.now program E
+    ensures text { (program : Program) (E : List Made) → RunsProgram ⟦<CProc<'c> as Proc>⟧.stands_for ⟦<CProc<'c> as Proc>⟧.name_of ⟦<CProc<'c> as Proc>⟧.origin_of M.letters world.now program E
         → Prints (O.given out.old) (O.given out.new) (O.faults out.old) (O.faults out.new) (runs.blocks program (length world.now.processes) E) result }
+    ensures cause { BelongsTo (is_err result) (O.faults out.old) (O.faults out.new) }
 {
     put_blocks(out, world)?;
     let sent = world.sent();

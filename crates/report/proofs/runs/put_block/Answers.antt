@@ -6,8 +6,8 @@ use Rattle.c_process.proofs.Shown.{look_shown}
 use Rattle.report.proofs.Shown.{its_script, its_code, its_own, prints_block}
 use Rattle.report.proofs.runs.put_block.Goals as goal
 
-pub returns : goal.returns
-returns g c = λ program E k.
+pub returns-clause-text : goal.returns-clause-text
+returns-clause-text g c = λ program E k.
     let p = c.args.p.no in
     let n = length c.args.world.now.processes in
     let x = c.process-process.result.now in
