@@ -5,8 +5,10 @@
 mod arithmetic;
 mod bytes;
 mod channels;
+mod decimal;
 mod kind;
 mod letter;
+mod limits;
 mod list;
 mod memory;
 mod operator;
@@ -18,8 +20,13 @@ pub use arithmetic::{
 };
 pub use bytes::Bytes;
 pub use channels::has_channel;
+pub use decimal::number;
 pub use kind::{FaultCause, Kind};
 pub use letter::{AcceptNote, Letter, LetterId, ProcNo, Stamp};
+pub use limits::{
+    MAX_DATA_WORDS, MAX_EVENTS, MAX_OUTPUT_BYTES, MAX_PROCESSES, MAX_PROGRAM_BYTES,
+    MAX_SCHEDULE_BYTES, MAX_TRACE_BYTES, MAX_TURNS,
+};
 pub use list::List;
 pub use memory::WantOfMemory;
 pub use operator::{BinaryOp, Ctype, UnaryOp};
