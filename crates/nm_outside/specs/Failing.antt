@@ -1,7 +1,7 @@
 -- Which calls of the objects in memory fail, and what a failing call keeps. Calls are numbered from 1.
 use Rattle.std.specs.Prelude.{ℕ, ◌+◌, ◌-◌, ◌^◌, List, length, take, min, Bool, true, false, ◌&&◌, nat_lt, ◌==◌, Option, Some, None, if◌then◌else◌}
 use Rattle.std.specs.Option.{option_map}
-use Rattle.std.specs.List.{find}
+use Rattle.std.specs.List.{find, list_any}
 use Rattle.nm_outside.specs.declared.mem_cabinet.CabinetCall.{CabinetCall}
 use Rattle.nm_outside.specs.declared.mem_cabinet.CabinetCall.TheVariants.{Fetch, Begin, Append, Close}
 use Rattle.nm_outside.specs.declared.mem_cabinet.CabinetFail.{CabinetFail}
@@ -25,6 +25,10 @@ failing_call fails call nth = option_map (λ f. f.kept) (find (λ f. is_call f.c
 -- the same of a put
 abbrev pub failing_put : List SinkFail → ℕ → Option ℕ
 failing_put fails nth = option_map (λ f. f.kept) (find (λ f. f.nth == nth) fails)
+
+-- whether the nth take of a source is to fail
+abbrev pub names_take : List ℕ → ℕ → Bool
+names_take fails nth = list_any (λ fail. fail == nth) fails
 
 -- how many bytes are kept of a piece that isn't wholly put behind these bytes: none where it is past
 -- the room, and otherwise so many where the call is to fail

@@ -1,5 +1,5 @@
 -- What the objects in memory hold, for their callers.
-use Rattle.std.specs.Prelude.{ℕ, List, length, Option, Some, None, ◌==◌, if◌then◌else◌}
+use Rattle.std.specs.Prelude.{ℕ, List, drop, length, Option, Some, None, ◌==◌, if◌then◌else◌}
 use Rattle.nm_outside.specs.Files.{Files}
 use Rattle.nm_outside.specs.InMemory.{files_of, first_bytes}
 use Rattle.nm_outside.specs.Failing.{next_number, failing_call, failing_put, kept_within}
@@ -9,6 +9,7 @@ use Rattle.nm_outside.specs.declared.mem_cabinet.Calls.{Calls}
 use Rattle.nm_outside.specs.declared.mem_cabinet.CabinetCall.{CabinetCall}
 use Rattle.nm_outside.specs.declared.mem_cabinet.CabinetCall.TheVariants.{Fetch, Begin, Append, Close}
 use Rattle.nm_outside.specs.declared.list_sink.ListSink.{ListSink}
+use Rattle.nm_outside.specs.declared.list_source.ListSource.{ListSource}
 use Rattle.nm_outside.specs.declared.list_sink.SinkFail.{SinkFail}
 
 -- ---- a cabinet in memory
@@ -65,3 +66,21 @@ puts_of s = s.puts
 -- what the next put of a piece keeps of it, where that fails
 abbrev pub next_kept : ListSink → List ℕ → Option ℕ
 next_kept s piece = kept_within s.room s.bytes.items piece (failing_put s.fails.items (next_number s.puts))
+
+-- ---- a source in memory
+
+-- what it has left
+abbrev pub left_in : ListSource → List ℕ
+left_in s = drop s.place s.bytes.items
+
+-- the most bytes of one take
+abbrev pub piece_of : ListSource → ℕ
+piece_of s = s.piece
+
+-- the takes that are to fail
+abbrev pub take_fails : ListSource → List ℕ
+take_fails s = s.fails.items
+
+-- how many takes there were
+abbrev pub takes_of : ListSource → ℕ
+takes_of s = s.takes

@@ -5,3 +5,4 @@ pub mod Begun
 pub mod InMemory
 pub mod Failing
 pub mod Held
+pub mod private

@@ -96,7 +96,8 @@ pub trait Cabinet {
         ensures ok { OnOk result (files self.new ≡ extended (files self.old) (open_name self.old) piece.now) }
         ensures err { OnErr result (ExtendsPart (files self.old) (open_name self.old) piece.now (files self.new)) }
         ensures failed { BelongsTo (is_err result) (write_faults self.old) (write_faults self.new) }
-        ensures sure { HasRoom (sure_room self.old) (file_in (files self.old) (open_name self.old)) piece.now → IsOk result }
+        ensures sure { HasRoom (sure_room self.old) (file_in (files self.old) (open_name self.old)) piece.now
+            → IsOk result }
 
         // Nothing else changes.
         ensures is_open { is_open self.new ≡ is_open self.old }

@@ -1,13 +1,16 @@
 //! A cabinet over real files.
 
-ghost use Rattle.std.specs.Prelude.{◌≡◌, None, is_some, [], false};
-ghost use Rattle.nm_outside.specs.Fetched.{IsWithin, is_absent};
+ghost use Rattle.std.specs.Prelude.{◌≡◌, ◌+◌, None, Some, IfSome, IsOk, IsTrue, OnOk, OnErr, is_err, is_some, [], false};
+ghost use Rattle.nm_outside.specs.Causes.{BelongsTo};
+ghost use Rattle.std.specs.Io.KnownBytes.{Appends};
+ghost use Rattle.nm_outside.specs.Files.{extended, file_in, ExtendsPart, HasRoom};
+ghost use Rattle.nm_outside.specs.Fetched.{IsWithin, Tells, is_absent, is_failed};
 
 use crate::cabinet::{BeginFault, Cabinet, Failed, Fetched};
+use crate::fault_count::{FaultCount, Opened};
 use crate::writer_sink::write_whole;
 use std::alloc::Global;
-use std::fs;
-use std::io::{ErrorKind, Read, Write};
+use std::io::Read;
 use std::rt::Files;
 
 // Bytes are read in pieces of so many.
@@ -18,10 +21,10 @@ const PIECE: usize = 65_536;
 #[derive(Drop)]
 pub struct DiskCabinet<'a, R: Files> {
     rt: &'a R,
-    open: Option<R::File>,
-    read_faults: u64,
-    write_faults: u64,
-    absents: u64,
+    file: Option<R::File>,
+    reads: FaultCount,
+    writes: FaultCount,
+    absents: FaultCount,
 }
 
 impl<'a, R: Files> DiskCabinet<'a, R> {
@@ -34,25 +37,33 @@ impl<'a, R: Files> DiskCabinet<'a, R> {
     {
         DiskCabinet {
             rt,
-            open: None,
-            read_faults: 0,
-            write_faults: 0,
-            absents: 0,
+            file: None,
+            reads: FaultCount::new(),
+            writes: FaultCount::new(),
+            absents: FaultCount::new(),
         }
     }
 }
 
-// The first bytes of a file, as far as it has them. A refused growth is want of memory, and each
-// failure of a read is a failure, one for want of memory in the system too.
-fn first_bytes<F: Read + Drop>(alloc: Global, mut file: F, count: usize) -> Fetched
-    ensures bound { IsWithin count result }
+// The bytes that a reader has left, or the first `limit + 1` where it has more. A refused growth is want of memory,
+// and each failure of a read is a failure, one for want of memory in the system too.
+pub(crate) fn first_bytes<R: Read>(
+    alloc: Global,
+    faults: &mut FaultCount,
+    reader: &mut R,
+    limit: u32,
+) -> Fetched
+    ensures answer { IfSome (R.remaining reader.old) (λ left. Tells (Some left) limit result) }
+    ensures bound { IsWithin (limit + 1) result }
     ensures found { is_absent result ≡ false }
+    ensures cause { BelongsTo (is_failed result) faults.old.count faults.new.count }
 {
+    let count = limit as usize + 1;
     let mut bytes = Vec::new(alloc);
     let mut piece = [0; PIECE];
     while bytes.len() < count {
         let part = piece.split_at_mut((count - bytes.len()).min(PIECE)).0;
-        match file.read(part) {
+        match faults.read(reader, part) {
             Ok(0) => return Fetched::Bytes(bytes),
             Ok(read) => {
                 if bytes.extend_from_slice(part.split_at(read).0).is_err() {
@@ -68,64 +79,59 @@ fn first_bytes<F: Read + Drop>(alloc: Global, mut file: F, count: usize) -> Fetc
 impl<R: Files> Cabinet for DiskCabinet<'_, R> {
     ghost files = { λ c. None };
 
-    ghost is_open = { λ c. is_some c.open };
+    ghost is_open = { λ c. is_some c.file };
 
     ghost open_name = { λ c. [] };
 
     ghost sure_room = { λ c. None };
 
-    ghost read_faults = { λ c. c.read_faults };
+    ghost read_faults = { λ c. c.reads.count };
 
-    ghost write_faults = { λ c. c.write_faults };
+    ghost write_faults = { λ c. c.writes.count };
 
-    ghost absents = { λ c. c.absents };
+    ghost absents = { λ c. c.absents.count };
 
     fn fetch(&mut self, alloc: Global, name: &str, limit: u32) -> Fetched {
-        let fetched = match fs::open(self.rt, name) {
-            Ok(file) => first_bytes(alloc, file, limit as usize + 1),
-            Err(error) if error.kind() == ErrorKind::NotFound => Fetched::Absent,
-            Err(_) => Fetched::Failed,
-        };
-        match &fetched {
-            Fetched::Absent => self.absents = self.absents.saturating_add(1),
-            Fetched::Failed => self.read_faults = self.read_faults.saturating_add(1),
-            _ => {}
+        match self.reads.open(&mut self.absents, self.rt, name) {
+            Opened::File(mut file) => first_bytes(alloc, &mut self.reads, &mut file, limit),
+            Opened::Absent => Fetched::Absent,
+            Opened::Failed => Fetched::Failed,
         }
-        fetched
     }
 
     fn begin(&mut self, _alloc: Global, name: &str) -> Result<(), BeginFault> {
-        match fs::create(self.rt, name) {
+        match self.writes.create(self.rt, name) {
             Ok(file) => {
-                self.open = Some(file);
+                self.file = Some(file);
                 Ok(())
             }
-            Err(_) => {
-                self.write_faults = self.write_faults.saturating_add(1);
-                Err(BeginFault::Failed)
-            }
+            Err(Failed) => Err(BeginFault::Failed),
         }
     }
 
-    fn append(&mut self, piece: &[u8]) -> Result<(), Failed> {
-        let result = match &mut self.open {
-            Some(file) => write_whole(file, piece),
+    /// The open file grows by the piece, where it tells what it holds.
+    fn append(&mut self, piece: &[u8]) -> Result<(), Failed>
+        requires { IsTrue (is_some self.old.file) }
+        ensures grows { OnOk result (IfSome self.old.file (λ old. IfSome self.new.file (λ new.
+            Appends (R.File.contents old) (R.File.contents new) piece.now))) }
+        ensures ok { OnOk result (None ≡ extended None [] piece.now) }
+        ensures err { OnErr result (ExtendsPart None [] piece.now None) }
+        ensures failed { BelongsTo (is_err result) self.old.writes.count self.new.writes.count }
+        ensures sure { HasRoom None (file_in None []) piece.now → IsOk result }
+        ensures is_open { is_some self.new.file ≡ is_some self.old.file }
+        ensures read_faults { self.new.reads.count ≡ self.old.reads.count }
+        ensures absents { self.new.absents.count ≡ self.old.absents.count }
+    {
+        match &mut self.file {
+            Some(file) => write_whole(&mut self.writes, file, piece),
             None => Err(Failed),
-        };
-        if result.is_err() {
-            self.write_faults = self.write_faults.saturating_add(1);
         }
-        result
     }
 
     fn close(&mut self) -> Result<(), Failed> {
-        let result = match self.open.take() {
-            Some(mut file) => file.flush().map_err(|_| Failed),
+        match self.file.take() {
+            Some(mut file) => self.writes.flush(&mut file),
             None => Err(Failed),
-        };
-        if result.is_err() {
-            self.write_faults = self.write_faults.saturating_add(1);
         }
-        result
     }
 }

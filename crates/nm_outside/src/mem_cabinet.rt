@@ -167,7 +167,8 @@ impl Cabinet for MemCabinet {
 
         // Which fetch fails.
         ensures fails { is_failed result ≡ is_some (next_failing self.old CabinetCall.Fetch) }
-        ensures calls { calls_of self.new ≡ record (calls_of self.old) { fetches = next_number (calls_of self.old).fetches } }
+        ensures calls { calls_of self.new
+            ≡ record (calls_of self.old) { fetches = next_number (calls_of self.old).fetches } }
         ensures same_room { room_in self.new ≡ room_in self.old }
         ensures same_fails { fails_of self.new ≡ fails_of self.old }
     {
@@ -202,7 +203,8 @@ impl Cabinet for MemCabinet {
 
         // Which begin fails.
         ensures fails { has_failed result ≡ is_some (next_failing self.old CabinetCall.Begin) }
-        ensures calls { calls_of self.new ≡ record (calls_of self.old) { begins = next_number (calls_of self.old).begins } }
+        ensures calls { calls_of self.new
+            ≡ record (calls_of self.old) { begins = next_number (calls_of self.old).begins } }
         ensures same_room { room_in self.new ≡ room_in self.old }
         ensures same_fails { fails_of self.new ≡ fails_of self.old }
     {
@@ -227,10 +229,13 @@ impl Cabinet for MemCabinet {
     /// Fails exactly where the piece is past the room or this append is to fail.
     fn append(&mut self, piece: &[u8]) -> Result<(), Failed>
         requires { IsTrue self.old.is_open }
-        ensures ok { OnOk result (Some (held_by self.new) ≡ extended (Some (held_by self.old)) (first_name self.old.files.items) piece.now) }
-        ensures err { OnErr result (ExtendsPart (Some (held_by self.old)) (first_name self.old.files.items) piece.now (Some (held_by self.new))) }
+        ensures ok { OnOk result (Some (held_by self.new)
+            ≡ extended (Some (held_by self.old)) (first_name self.old.files.items) piece.now) }
+        ensures err { OnErr result (ExtendsPart (Some (held_by self.old)) (first_name self.old.files.items) piece.now
+            (Some (held_by self.new))) }
         ensures failed { BelongsTo (is_err result) self.old.write_faults self.new.write_faults }
-        ensures sure { HasRoom (room_of self.old) (get (held_by self.old) (first_name self.old.files.items)) piece.now → IsOk result }
+        ensures sure { HasRoom (room_of self.old) (get (held_by self.old) (first_name self.old.files.items)) piece.now
+            → IsOk result }
         ensures is_open { self.new.is_open ≡ self.old.is_open }
         ensures open_name { first_name self.new.files.items ≡ first_name self.old.files.items }
         ensures read_faults { self.new.read_faults ≡ self.old.read_faults }
@@ -238,8 +243,11 @@ impl Cabinet for MemCabinet {
 
         // Which append fails, and what it keeps.
         ensures fails { is_err result ≡ is_some (next_part self.old piece.now) }
-        ensures kept { Some (held_by self.new) ≡ extended (Some (held_by self.old)) (first_name self.old.files.items) (part_of piece.now (next_part self.old piece.now)) }
-        ensures calls { calls_of self.new ≡ record (calls_of self.old) { appends = next_number (calls_of self.old).appends } }
+        ensures kept { Some (held_by self.new)
+            ≡ extended (Some (held_by self.old)) (first_name self.old.files.items)
+            (part_of piece.now (next_part self.old piece.now)) }
+        ensures calls { calls_of self.new
+            ≡ record (calls_of self.old) { appends = next_number (calls_of self.old).appends } }
         ensures same_room { room_in self.new ≡ room_in self.old }
         ensures same_fails { fails_of self.new ≡ fails_of self.old }
     {
@@ -264,7 +272,8 @@ impl Cabinet for MemCabinet {
 
         // Which close fails.
         ensures fails { is_err result ≡ is_some (next_failing self.old CabinetCall.Close) }
-        ensures calls { calls_of self.new ≡ record (calls_of self.old) { closes = next_number (calls_of self.old).closes } }
+        ensures calls { calls_of self.new
+            ≡ record (calls_of self.old) { closes = next_number (calls_of self.old).closes } }
         ensures same_room { room_in self.new ≡ room_in self.old }
         ensures same_fails { fails_of self.new ≡ fails_of self.old }
     {

@@ -16,7 +16,8 @@ pub(crate) fn extend(
 ) -> Result<(), Failed>
     requires { room ≤ vec_capacity bytes.old }
     ensures fails { is_err result ≡ is_some (kept_within room bytes.old.items piece.now failing) }
-    ensures bytes { bytes.new.items ≡ bytes.old.items ++ part_of piece.now (kept_within room bytes.old.items piece.now failing) }
+    ensures bytes { bytes.new.items
+        ≡ bytes.old.items ++ part_of piece.now (kept_within room bytes.old.items piece.now failing) }
     ensures capacity { vec_capacity bytes.old ≤ vec_capacity bytes.new }
 {
     if bytes.len() + piece.len() > room as usize {
