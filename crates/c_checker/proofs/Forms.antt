@@ -11,8 +11,8 @@ use Rattle.c_tree.specs.declared.tree.Expr.TheBlock.{the_family, the_fold, body-
 use Rattle.c_tree.specs.declared.tree.Expr.TheFolds.{family, steps, map-Expr, map_is-Expr}
 use Rattle.c_checker.specs.declared.constants.Constant.{Constant}
 use Rattle.c_checker.specs.Constants.{constant_step, constant_of}
-use Rattle.c_checker.specs.Scope.{Names}
-use Rattle.c_checker.specs.Expressions.{Part, part_step, part_of}
+use Rattle.c_checker.specs.Scope.{ScopeNames}
+use Rattle.c_checker.specs.Expressions.{ExprCheck, part_step, part_of}
 
 module _ {A : Type 0} (step : Expr-F A → A) where
   abbrev laid : Expr → A
@@ -29,7 +29,7 @@ constant_roll : (x : Expr-F Expr) → constant_of (roll-Expr x) ≡ constant_ste
 unfolding constant_of
 constant_roll x = laid_roll constant_step x
 
-pub part_roll : (names : Names) (x : Expr-F Expr) → part_of names (roll-Expr x) ≡ part_step names (map-Expr Expr Part (part_of names) x)
+pub part_roll : (names : ScopeNames) (x : Expr-F Expr) → part_of names (roll-Expr x) ≡ part_step names (map-Expr Expr ExprCheck (part_of names) x)
 unfolding part_of
 part_roll names x = laid_roll (part_step names) x
 
@@ -77,48 +77,48 @@ pub constant_assign : (op : Option BinaryOp) (place : Expr) (value : Expr) (line
     → constant_of (e.Assign op place value line) ≡ constant_step (Expr-F.Assign op (constant_of place) (constant_of value) line)
 constant_assign op place value line = sym (ap (constant_of) (e.rolls-Assign op place value line)) ∙ constant_roll (Expr-F.Assign op place value line)
 
-pub part_const : (names : Names) (bits : ℕ) (of : Ctype) (line : ℕ) → part_of names (e.Const bits of line) ≡ part_step names (Expr-F.Const bits of line)
+pub part_const : (names : ScopeNames) (bits : ℕ) (of : Ctype) (line : ℕ) → part_of names (e.Const bits of line) ≡ part_step names (Expr-F.Const bits of line)
 part_const names bits of line = sym (ap (part_of names) (e.rolls-Const bits of line)) ∙ part_roll names (Expr-F.Const bits of line)
 
-pub part_text : (names : Names) (bytes : List ℕ) (line : ℕ) → part_of names (e.Text bytes line) ≡ part_step names (Expr-F.Text bytes line)
+pub part_text : (names : ScopeNames) (bytes : List ℕ) (line : ℕ) → part_of names (e.Text bytes line) ≡ part_step names (Expr-F.Text bytes line)
 part_text names bytes line = sym (ap (part_of names) (e.rolls-Text bytes line)) ∙ part_roll names (Expr-F.Text bytes line)
 
-pub part_name : (names : Names) (name : List ℕ) (line : ℕ) → part_of names (e.Name name line) ≡ part_step names (Expr-F.Name name line)
+pub part_name : (names : ScopeNames) (name : List ℕ) (line : ℕ) → part_of names (e.Name name line) ≡ part_step names (Expr-F.Name name line)
 part_name names name line = sym (ap (part_of names) (e.rolls-Name name line)) ∙ part_roll names (Expr-F.Name name line)
 
-pub part_at : (names : Names) (name : List ℕ) (index : Expr) (line : ℕ) → part_of names (e.At name index line) ≡ part_step names (Expr-F.At name (part_of names index) line)
+pub part_at : (names : ScopeNames) (name : List ℕ) (index : Expr) (line : ℕ) → part_of names (e.At name index line) ≡ part_step names (Expr-F.At name (part_of names index) line)
 part_at names name index line = sym (ap (part_of names) (e.rolls-At name index line)) ∙ part_roll names (Expr-F.At name index line)
 
-pub part_call : (names : Names) (name : List ℕ) (args : List Expr) (line : ℕ) → part_of names (e.Call name args line) ≡ part_step names (Expr-F.Call name (map (part_of names) args) line)
+pub part_call : (names : ScopeNames) (name : List ℕ) (args : List Expr) (line : ℕ) → part_of names (e.Call name args line) ≡ part_step names (Expr-F.Call name (map (part_of names) args) line)
 part_call names name args line = sym (ap (part_of names) (e.rolls-Call name args line)) ∙ part_roll names (Expr-F.Call name args line)
 
-pub part_paren : (names : Names) (part : Expr) (line : ℕ) → part_of names (e.Paren part line) ≡ part_step names (Expr-F.Paren (part_of names part) line)
+pub part_paren : (names : ScopeNames) (part : Expr) (line : ℕ) → part_of names (e.Paren part line) ≡ part_step names (Expr-F.Paren (part_of names part) line)
 part_paren names part line = sym (ap (part_of names) (e.rolls-Paren part line)) ∙ part_roll names (Expr-F.Paren part line)
 
-pub part_unary : (names : Names) (op : UnaryOp) (part : Expr) (line : ℕ) → part_of names (e.Unary op part line) ≡ part_step names (Expr-F.Unary op (part_of names part) line)
+pub part_unary : (names : ScopeNames) (op : UnaryOp) (part : Expr) (line : ℕ) → part_of names (e.Unary op part line) ≡ part_step names (Expr-F.Unary op (part_of names part) line)
 part_unary names op part line = sym (ap (part_of names) (e.rolls-Unary op part line)) ∙ part_roll names (Expr-F.Unary op part line)
 
-pub part_bump : (names : Names) (up : Bool) (before : Bool) (part : Expr) (line : ℕ) → part_of names (e.Bump up before part line) ≡ part_step names (Expr-F.Bump up before (part_of names part) line)
+pub part_bump : (names : ScopeNames) (up : Bool) (before : Bool) (part : Expr) (line : ℕ) → part_of names (e.Bump up before part line) ≡ part_step names (Expr-F.Bump up before (part_of names part) line)
 part_bump names up before part line = sym (ap (part_of names) (e.rolls-Bump up before part line)) ∙ part_roll names (Expr-F.Bump up before part line)
 
-pub part_binary : (names : Names) (op : BinaryOp) (left : Expr) (right : Expr) (line : ℕ)
+pub part_binary : (names : ScopeNames) (op : BinaryOp) (left : Expr) (right : Expr) (line : ℕ)
     → part_of names (e.Binary op left right line) ≡ part_step names (Expr-F.Binary op (part_of names left) (part_of names right) line)
 part_binary names op left right line = sym (ap (part_of names) (e.rolls-Binary op left right line)) ∙ part_roll names (Expr-F.Binary op left right line)
 
-pub part_and : (names : Names) (left : Expr) (right : Expr) (line : ℕ) → part_of names (e.And left right line) ≡ part_step names (Expr-F.And (part_of names left) (part_of names right) line)
+pub part_and : (names : ScopeNames) (left : Expr) (right : Expr) (line : ℕ) → part_of names (e.And left right line) ≡ part_step names (Expr-F.And (part_of names left) (part_of names right) line)
 part_and names left right line = sym (ap (part_of names) (e.rolls-And left right line)) ∙ part_roll names (Expr-F.And left right line)
 
-pub part_or : (names : Names) (left : Expr) (right : Expr) (line : ℕ) → part_of names (e.Or left right line) ≡ part_step names (Expr-F.Or (part_of names left) (part_of names right) line)
+pub part_or : (names : ScopeNames) (left : Expr) (right : Expr) (line : ℕ) → part_of names (e.Or left right line) ≡ part_step names (Expr-F.Or (part_of names left) (part_of names right) line)
 part_or names left right line = sym (ap (part_of names) (e.rolls-Or left right line)) ∙ part_roll names (Expr-F.Or left right line)
 
-pub part_choose : (names : Names) (test : Expr) (first : Expr) (second : Expr) (line : ℕ)
+pub part_choose : (names : ScopeNames) (test : Expr) (first : Expr) (second : Expr) (line : ℕ)
     → part_of names (e.Choose test first second line) ≡ part_step names (Expr-F.Choose (part_of names test) (part_of names first) (part_of names second) line)
 part_choose names test first second line = sym (ap (part_of names) (e.rolls-Choose test first second line)) ∙ part_roll names (Expr-F.Choose test first second line)
 
-pub part_comma : (names : Names) (left : Expr) (right : Expr) (line : ℕ) → part_of names (e.Comma left right line) ≡ part_step names (Expr-F.Comma (part_of names left) (part_of names right) line)
+pub part_comma : (names : ScopeNames) (left : Expr) (right : Expr) (line : ℕ) → part_of names (e.Comma left right line) ≡ part_step names (Expr-F.Comma (part_of names left) (part_of names right) line)
 part_comma names left right line = sym (ap (part_of names) (e.rolls-Comma left right line)) ∙ part_roll names (Expr-F.Comma left right line)
 
-pub part_assign : (names : Names) (op : Option BinaryOp) (place : Expr) (value : Expr) (line : ℕ)
+pub part_assign : (names : ScopeNames) (op : Option BinaryOp) (place : Expr) (value : Expr) (line : ℕ)
     → part_of names (e.Assign op place value line) ≡ part_step names (Expr-F.Assign op (part_of names place) (part_of names value) line)
 part_assign names op place value line = sym (ap (part_of names) (e.rolls-Assign op place value line)) ∙ part_roll names (Expr-F.Assign op place value line)
 

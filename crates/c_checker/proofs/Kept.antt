@@ -1,4 +1,4 @@
--- Names that are visible before a statement are visible after it.
+-- ScopeNames that are visible before a statement are visible after it.
 use Rattle.std.proofs.Common.{◌≡◌, ℕ, ◌+◌, Bool, true, false, List, [], ◌∷◌, ◌++◌, length, take, map, Option, Some, None, refl, sym, ap, ◌∙◌, subst}
 use Rattle.std.proofs.lemmas.List.{append-nil}
 use Rattle.nm_base.specs.declared.operator.Ctype.{Ctype}
@@ -22,7 +22,7 @@ use Rattle.c_checker.specs.declared.state.Body.{Body}
 use Rattle.c_checker.specs.declared.state.Around.{Around}
 use Rattle.c_tree.specs.declared.program.Function.{Function}
 use Rattle.c_checker.specs.Found.{Found, fine, pure, note, lift, ◌>>=◌}
-use Rattle.c_checker.specs.Scope.{Names}
+use Rattle.c_checker.specs.Scope.{ScopeNames}
 use Rattle.c_checker.specs.Statements.{Writes, visible, value, optional, size, new_local, add_local, declare, declares, locals, begin_block, slots, entry_of}
 use Rattle.c_checker.specs.Statements.{case_label, new_label, label_faults, label, constant_pattern, labels, outside, inside_loop, inside_switch, StmtPart, ArmPart, sequence}
 use Rattle.c_checker.specs.Statements.{else_part, return_faults, arms}
@@ -160,11 +160,11 @@ module _ (functions : List Heading) where
   kept_case before None line = kept_pure []
   kept_case before (Some n) line = kept_new_label before (Some n) line
 
-  kept_label : (names : Names) (before : List PLabel) (e : Option Expr) (line : ℕ) → Kept (label names before e line)
+  kept_label : (names : ScopeNames) (before : List PLabel) (e : Option Expr) (line : ℕ) → Kept (label names before e line)
   kept_label names before None line = kept_new_label before None line
   kept_label names before (Some e) line = kept_bind {f = λ n. case_label before n line} (kept_lift (constant_pattern names e)) (λ n. kept_case before n line)
 
-  kept_labels : (names : Names) (before these : List PLabel) (ls : List Label) → Kept (labels names before these ls)
+  kept_labels : (names : ScopeNames) (before these : List PLabel) (ls : List Label) → Kept (labels names before these ls)
   kept_labels names before these [] = kept_pure these
   kept_labels names before these (l ∷ more) =
       kept_bind {f = λ xs. labels names before (these ++ xs) more} (kept_label names (before ++ these) l.value l.line) (λ xs. kept_labels names before (these ++ xs) more)

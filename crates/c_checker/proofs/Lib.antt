@@ -1,4 +1,4 @@
-pub mod Calls
+pub mod ValueForms
 mod Examples
 pub mod Forms
 pub mod Found

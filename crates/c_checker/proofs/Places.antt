@@ -6,7 +6,7 @@ use Rattle.std.specs.declared.vec.Vec.{Vec}
 use Rattle.std.specs.Ordering.{nat_cmp, is_eq}
 use Rattle.std.specs.Cmp.{eq_by_cmp_equiv}
 use Rattle.std.specs.Cmp.Lexicographic.{slice_cmp, bytes_decides, nat_list_cmp_total, nat_list_eq_equiv}
-use Rattle.std.specs.BTreeMap.{BTreeMap, UpdatesBy, IsUnchanged}
+use Rattle.std.specs.BTreeMap.{BTreeMap, UpdatesBy}
 use Rattle.std.specs.Map.{lookup, IsKeyTest, AreApart, KeepsOthers}
 use Rattle.std.specs.Str.{bytes_eq}
 use Rattle.std.proofs.lemmas.Bool.{cases_Bool, cond-true, cond-false}
@@ -18,7 +18,7 @@ use Rattle.c_checker.specs.declared.entries.Entry.{Entry}
 use Rattle.c_checker.specs.declared.entries.Held.{Held}
 use Rattle.c_checker.specs.declared.entries.Thing.{Thing}
 use Rattle.c_checker.specs.Scope as scope
-use Rattle.c_checker.specs.Places.{later, place, place_in, hidden_after, entries_of, Keeps}
+use Rattle.c_checker.specs.private.Places.{later, place, place_in, hidden_after, entries_of, Keeps}
 
 -- ---- the map
 
@@ -43,10 +43,6 @@ place_changed bs m n w h cs =
     (λ e. ap (λ o. unwrap_or o None) (other_entries _ _ _ _ h.3 _ (λ x y. (eq_by_cmp_equiv nat_list_cmp_total).congr cs x.items y.items) (λ k. apart_in_order bs cs k.items e))
     ∙ sym (cond-false (bytes_eq bs cs) w (place_in m cs) e))
     (cases_Bool (bytes_eq bs cs))
-
--- a map with the same entries
-pub place_same : (m n : BTreeMap (Vec ℕ Global) (Option ℕ)) → IsUnchanged m n → (cs : List ℕ) → place_in n cs ≡ place_in m cs
-place_same m n h cs = ap (λ es. unwrap_or (lookup (λ (k : Vec ℕ Global). is_eq (slice_cmp nat_cmp cs k.items)) es) None) h
 
 -- ---- the list
 

@@ -16,7 +16,7 @@ use Rattle.c_checker.specs.declared.fault.CheckFault.{CheckFault}
 use Rattle.c_checker.specs.declared.headings.Heading.{Heading}
 use Rattle.c_checker.specs.declared.state.Body.{Body}
 use Rattle.c_checker.specs.declared.state.Around.{Around}
-use Rattle.c_checker.specs.Found.{Gives}
+use Rattle.c_checker.specs.Found.{CheckGives}
 use Rattle.c_checker.specs.Statements.{Writes, StmtPart, ArmPart, alone, plain, stmt_step, arm_step, stmt_of, arm_of}
 
 module _ (functions : List Heading) (result : Option Ctype) where
@@ -83,13 +83,13 @@ module _ (functions : List Heading) (result : Option Ctype) where
 
 -- what a statement stands for, by its form
 pub check_form : (functions : List Heading) (result : Option Ctype) (x form : Stmt) (p : StmtPart) (around : Around) (s t : Body) (r : Result PStmt CheckFault) → x ≡ form
-    → stmt_of functions result form ≡ p → Gives (p.check around s) r t → Gives ((stmt_of functions result x).check around s) r t
-check_form functions result x form p around s t r is same h = subst (λ (p : StmtPart). Gives (p.check around s) r t) (sym (ap (stmt_of functions result) is ∙ same)) h
+    → stmt_of functions result form ≡ p → CheckGives (p.check around s) r t → CheckGives ((stmt_of functions result x).check around s) r t
+check_form functions result x form p around s t r is same h = subst (λ (p : StmtPart). CheckGives (p.check around s) r t) (sym (ap (stmt_of functions result) is ∙ same)) h
 
 -- the same of a function's body
 pub body_form : (functions : List Heading) (result : Option Ctype) (x form : Stmt) (p : StmtPart) (from : ℕ) (s t : Body) (r : Result PStmt CheckFault) → x ≡ form
-    → stmt_of functions result form ≡ p → Gives (p.body from s) r t → Gives ((stmt_of functions result x).body from s) r t
-body_form functions result x form p from s t r is same h = subst (λ (p : StmtPart). Gives (p.body from s) r t) (sym (ap (stmt_of functions result) is ∙ same)) h
+    → stmt_of functions result form ≡ p → CheckGives (p.body from s) r t → CheckGives ((stmt_of functions result x).body from s) r t
+body_form functions result x form p from s t r is same h = subst (λ (p : StmtPart). CheckGives (p.body from s) r t) (sym (ap (stmt_of functions result) is ∙ same)) h
 
 -- a statement that isn't a block
 pub record IsPlain (functions : List Heading) (x : StmtPart) (line : ℕ) : Type 0 where
@@ -97,6 +97,6 @@ pub record IsPlain (functions : List Heading) (x : StmtPart) (line : ℕ) : Type
   pub same : x ≡ plain functions line check
 
 -- as a function's body it stands for a block of it alone
-pub alone_form : (functions : List Heading) (x : StmtPart) (line from : ℕ) (s t : Body) (r : Result PStmt CheckFault) → IsPlain functions x line → Gives (alone functions x.check line from s) r t
-    → Gives (x.body from s) r t
-alone_form functions x line from s t r is h = subst (λ (x : StmtPart). Gives (alone functions x.check line from s) r t → Gives (x.body from s) r t) (sym is.same) (λ g. g) h
+pub alone_form : (functions : List Heading) (x : StmtPart) (line from : ℕ) (s t : Body) (r : Result PStmt CheckFault) → IsPlain functions x line → CheckGives (alone functions x.check line from s) r t
+    → CheckGives (x.body from s) r t
+alone_form functions x line from s t r is h = subst (λ (x : StmtPart). CheckGives (alone functions x.check line from s) r t → CheckGives (x.body from s) r t) (sym is.same) (λ g. g) h

@@ -26,7 +26,7 @@ use Rattle.c_checker.proofs.TypedExprs.{expr_fits}
 
 -- ---- names
 
-module _ (final : typing.Names) (params : ℕ → List Slot) where
+module _ (final : typing.Declarations) (params : ℕ → List Slot) where
   abbrev pub EntriesFit : List Entry → Type 0
   EntriesFit [] = Unit {0}
   EntriesFit (e ∷ es) = ThingFits final params e.thing × EntriesFit es
@@ -79,7 +79,7 @@ grows_then a b = record { texts = front_then a.texts b.texts; locals = front_the
 front_after : (ps : List Slot) {a b : List Slot} → Front a b → Front (ps ++ a) (ps ++ b)
 front_after ps {a = a} f = record { rest = f.rest; is = ap (λ l. ps ++ l) f.is ∙ sym (append_assoc ps a f.rest) }
 
-module _ (final : typing.Names) (functions : List Heading) (ps : List Slot) where
+module _ (final : typing.Declarations) (functions : List Heading) (ps : List Slot) where
   -- the whole function's texts and slots begin with these
   pub record Ended (s : Body) : Type 0 where
     pub texts : Front s.texts final.texts

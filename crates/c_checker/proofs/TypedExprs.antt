@@ -8,21 +8,21 @@ use Rattle.c_tree.specs.declared.tree.Expr.TheBlock.{the_family, the_fold, body-
 use Rattle.c_tree.specs.declared.tree.Expr.TheFolds.{family, steps, map-Expr, map_is-Expr}
 use Rattle.c_tree.specs.Typing as typing
 use Rattle.c_checker.specs.Found.{broken}
-use Rattle.c_checker.specs.Scope.{Names}
-use Rattle.c_checker.specs.Expressions.{Reads, Part, valued, nothing, unary_of, binary_of, choose_of, and_of, or_of, comma_of, bump_of, assign_of, element, part_step, part_of}
+use Rattle.c_checker.specs.Scope.{ScopeNames}
+use Rattle.c_checker.specs.Expressions.{Reads, ExprCheck, valued, nothing, unary_of, binary_of, choose_of, and_of, or_of, comma_of, bump_of, assign_of, element, part_step, part_of}
 use Rattle.c_checker.specs.declared.fault.CheckFault.TheVariants.{NotAssignable, NotArray, Format}
 use Rattle.c_checker.proofs.TypedSorts.{IsValue, Used, value_used, place_value, const_is, unary_is, binary_is, and_is, or_is, choose_is, comma_is, bump_is, assign_is}
 use Rattle.c_checker.proofs.TypedReads.{Good, good_pure, good_broken, good_weak, good_map, good_both, good_three, good_after}
 use Rattle.c_checker.proofs.TypedParts.{ThingFits, NamesFit, PartFits, AllFit, value_named, place_named, array_named, loose_named, element_good, element_place_good, call_good}
 
-pub part_roll : (names : Names) (x : Expr-F Expr) → part_of names (roll-Expr x) ≡ part_step names (map-Expr Expr Part (part_of names) x)
+pub part_roll : (names : ScopeNames) (x : Expr-F Expr) → part_of names (roll-Expr x) ≡ part_step names (map-Expr Expr ExprCheck (part_of names) x)
 unfolding part_of out-Expr roll-Expr out
 part_roll names x =
-    lays-Expr (family Part) (steps Part (part_step names)) (roll-Expr x)
-    ∙ ap (λ l. part_step names ((body-Expr).map the_family (family Part) (the_fold (family Part) (steps Part (part_step names))) l)) (out-roll-Expr x)
-    ∙ ap (part_step names) (map_is-Expr the_family (family Part) (the_fold (family Part) (steps Part (part_step names))) x)
+    lays-Expr (family ExprCheck) (steps ExprCheck (part_step names)) (roll-Expr x)
+    ∙ ap (λ l. part_step names ((body-Expr).map the_family (family ExprCheck) (the_fold (family ExprCheck) (steps ExprCheck (part_step names))) l)) (out-roll-Expr x)
+    ∙ ap (part_step names) (map_is-Expr the_family (family ExprCheck) (the_fold (family ExprCheck) (steps ExprCheck (part_step names))) x)
 
-module _ (final : typing.Names) (H : Type 0) where
+module _ (final : typing.Declarations) (H : Type 0) where
   valued_fits : (line : ℕ) (value : Bool → Reads PExpr) → ((used : Bool) → Good final.texts H (value used) (Used final used)) → PartFits final H (valued line value)
   valued_fits line value h = record {
     value = h;
@@ -35,7 +35,7 @@ module _ (final : typing.Names) (H : Type 0) where
   plain_fits : (line : ℕ) (value : Bool → Reads PExpr) → ((used : Bool) → Good final.texts H (value used) (IsValue final)) → PartFits final H (valued line value)
   plain_fits line value h = valued_fits line value (λ used. good_weak final.texts H (h used) (value_used final used))
 
-  module _ (names : Names) (fit : H → NamesFit final names) where
+  module _ (names : ScopeNames) (fit : H → NamesFit final names) where
     abbrev ExprFits : Expr → Type 0
     ExprFits e = PartFits final H (part_of names e)
 
@@ -49,7 +49,7 @@ module _ (final : typing.Names) (H : Type 0) where
     all_fit [] = tt
     all_fit (x ∷ xs) = (x.1, all_fit xs)
 
-    step_fits : (y : Expr-F Child) → PartFits final H (part_step names (map-Expr Expr Part (part_of names) (trees y)))
+    step_fits : (y : Expr-F Child) → PartFits final H (part_step names (map-Expr Expr ExprCheck (part_of names) (trees y)))
     step_fits (Expr-F.Const bits of line) = plain_fits line _ (λ used. good_pure final.texts H _ (λ w. const_is final bits of line))
     step_fits (Expr-F.Text bytes line) =
         let f = valued_fits line (λ used. broken (Format line) (nothing line)) (λ used. good_broken final.texts H (Format line) (nothing line)) in

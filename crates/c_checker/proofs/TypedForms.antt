@@ -38,7 +38,7 @@ use Rattle.c_checker.proofs.TypedStmts as level
 use Rattle.c_checker.proofs.TypedStmts.{LabelsAfter, labels_good, check_arm, check_empty, check_run, check_if, check_if_else, check_while, check_do, check_for, check_break}
 use Rattle.c_checker.proofs.TypedStmts.{check_continue, check_return, check_switch, check_arm_is, around_of}
 
-module _ (final : typing.Names) (functions : List Heading) (ps : List Slot) (result : Option Ctype) where
+module _ (final : typing.Declarations) (functions : List Heading) (ps : List Slot) (result : Option Ctype) where
   abbrev Laid : Body → Body → List (List ℕ) → Type 0
   Laid s t bs = level.Lays final functions ps result s t bs
 
@@ -301,7 +301,7 @@ module _ (functions : List Heading) (result : Option Ctype) where
       ∙ ap (λ l. arm_step functions result ((body-Arm).map the_family A (the_fold A S) l)) (out-roll-Arm x)
       ∙ ap (arm_step functions result) (map_is-Arm the_family A (the_fold A S) x)
 
-module _ (final : typing.Names) (functions : List Heading) (ps : List Slot) (result : Option Ctype) where
+module _ (final : typing.Declarations) (functions : List Heading) (ps : List Slot) (result : Option Ctype) where
   abbrev PartFits : StmtPart → Type 0
   PartFits x = level.PartFits final functions ps result x
 

@@ -185,7 +185,7 @@ head_of_grows t.Unknown h xs defines s = record { texts = front_same s.texts; gl
 pub head_grows : (h : Head) (defines : Bool) (s : File) → GrowsFile s (head h defines s).state
 head_grows h defines s = head_of_grows (find s.entries h.name) h (params (visible_params s) defines [] h.params).value defines s
 
-any_names : typing.Names
+any_names : typing.Declarations
 any_names = record { globals = []; functions = []; texts = []; slots = [] }
 
 pub function_grows : (f : ℕ) (h : Head) (xs : List Slot) (body : Stmt) (s : File) → GrowsFile s (function_of f h xs body s).state

@@ -7,6 +7,7 @@ use Rattle.std.proofs.lemmas.List.{append-nil, length-map, map-append}
 use Rattle.std.proofs.lemmas.List.Folds.{list_all-append}
 use Rattle.std.proofs.lemmas.Bool.{leb-true, eq-eqb, ltb-true, lt-ltb}
 use Rattle.nm_base.specs.declared.operator.Ctype.{Ctype}
+use Rattle.nm_base.specs.declared.limits.TheConstants.{MAX_DATA_WORDS}
 use Rattle.c_tree.specs.declared.program.Slot.{Slot}
 use Rattle.c_tree.specs.declared.program.Start.{Start}
 use Rattle.c_tree.specs.declared.program.PExpr.{PExpr}
@@ -22,7 +23,7 @@ use Rattle.c_checker.specs.declared.headings.Heading.{Heading}
 use Rattle.c_checker.specs.declared.state.Body.{Body}
 use Rattle.c_checker.specs.Constants.{constant_of}
 use Rattle.c_checker.specs.Found.{Found, pure, unless, ◌>>=◌}
-use Rattle.c_checker.specs.Scope.{Names, variable, params_of, is_taken}
+use Rattle.c_checker.specs.Scope.{ScopeNames, variable, params_of, is_taken}
 use Rattle.c_checker.specs.Expressions.{first_line}
 use Rattle.c_checker.specs.Statements.{bits_of, inner_faults, constant_bits, constant_pattern, size_faults, size, declr_faults, slot_of, entry_of, slots, visible, optional}
 use Rattle.c_checker.specs.Statements.{add_local, declare, declares, locals, begin_block}
@@ -44,31 +45,31 @@ bits_are : (o : Option ℕ) (f : CheckFault) (fs : List CheckFault) → (constan
 bits_are None f fs h = absurd (not_nil f fs [] (append-nil (f ∷ fs) ∙ h))
 bits_are (Some n) f fs h = record { bits = n; is = refl }
 
-pub pattern_is : (names : Names) (e : Expr) → (constant_pattern names e).faults ≡ [] → HasPattern (constant_pattern names e)
+pub pattern_is : (names : ScopeNames) (e : Expr) → (constant_pattern names e).faults ≡ [] → HasPattern (constant_pattern names e)
 pattern_is names e h = bits_are (bits_of (constant_of e)) (NotConstant (first_line e)) (inner_faults names e) h
 
-is_size_of : (n : ℕ) → (nat_le 1 n && nat_le n 65536) ≡ true → is_size (Some n) ≡ true
-is_size_of n h = let b = both_true (nat_le 1 n) (nat_le n 65536) h in and_true (lt-ltb 0 n (omega (arith, leb-true 1 n b.0))) b.1
+is_size_of : (n : ℕ) → (nat_le 1 n && nat_le n MAX_DATA_WORDS) ≡ true → is_size (Some n) ≡ true
+is_size_of n h = let b = both_true (nat_le 1 n) (nat_le n MAX_DATA_WORDS) h in and_true (lt-ltb 0 n (omega (arith, leb-true 1 n b.0))) b.1
 
 size_by : (o : Option ℕ) (fs : List CheckFault) (line : ℕ) → (o' : ℕ) → o ≡ Some o' → fs ++ (size_faults o line ++ []) ≡ [] → is_size (Some (unwrap_or o 1)) ≡ true
 size_by None fs line n e h = cc
-size_by (Some m) fs line n e h = is_size_of m (unless_none (nat_le 1 m && nat_le m 65536) (BadSize line) (nil_left _ [] (nil_right fs _ h)))
+size_by (Some m) fs line n e h = is_size_of m (unless_none (nat_le 1 m && nat_le m MAX_DATA_WORDS) (BadSize line) (nil_left _ [] (nil_right fs _ h)))
 
 -- a size that breaks no rule is one
-pub size_is : (names : Names) (e : Option Expr) (line : ℕ) → (size names e line).faults ≡ [] → is_size (size names e line).value ≡ true
+pub size_is : (names : ScopeNames) (e : Option Expr) (line : ℕ) → (size names e line).faults ≡ [] → is_size (size names e line).value ≡ true
 size_is names None line h = refl
 size_is names (Some e) line h =
     let found = constant_pattern names e in
     let p = pattern_is names e (nil_left found.faults (size_faults found.value line ++ []) h) in
     size_by found.value found.faults line p.bits p.is h
 
-pub no_size : (names : Names) (e : Option Expr) (line : ℕ) → is_none e ≡ true → (size names e line).value ≡ None
+pub no_size : (names : ScopeNames) (e : Option Expr) (line : ℕ) → is_none e ≡ true → (size names e line).value ≡ None
 no_size names None line h = refl
 no_size names (Some e) line h = cc
 
 -- ---- one local
 
-pub variable_fits : (final : typing.Names) (params : ℕ → List Slot) (number : ℕ) (x : Slot) → slice_get final.slots number ≡ Some x → x.array_param ≡ false
+pub variable_fits : (final : typing.Declarations) (params : ℕ → List Slot) (number : ℕ) (x : Slot) → slice_get final.slots number ≡ Some x → x.array_param ≡ false
     → ThingFits final params (variable (ASlot number) x.of (is_some x.length))
 variable_fits final params number x h g = by_length x.length h
   where
@@ -82,7 +83,7 @@ declr_is d h =
     let array = unless (is_none d.size || is_none d.start) (NotScalar d.line) in
     (unless_none (is_name d.name) (TooMany d.line) (nil_left name array h), unless_none (is_none d.size || is_none d.start) (NotScalar d.line) (nil_right name array h))
 
-module _ (final : typing.Names) (functions : List Heading) (ps : List Slot) (result : Option Ctype) where
+module _ (final : typing.Declarations) (functions : List Heading) (ps : List Slot) (result : Option Ctype) where
   -- a local with this number was added
   pub record Added (b : ℕ) (d : Declr) (s : Body) (n : ℕ) (t : Body) : Type 0 where
     pub number : n ≡ slots s

@@ -21,8 +21,8 @@ use Rattle.c_checker.specs.declared.fault.CheckFault.TheVariants.{Undeclared, No
 use Rattle.c_checker.specs.declared.entries.Thing.{Thing}
 use Rattle.c_checker.specs.declared.entries.Thing.TheVariants as t
 use Rattle.c_checker.specs.Found.{pure, broken, note, unless, ◌>>=◌, ◌>>◌}
-use Rattle.c_checker.specs.Scope.{Names}
-use Rattle.c_checker.specs.Expressions.{Part, typed, nothing, named_value, named_place, named_array, named_loose, subscripted, element, is_array, element_place, arguments, values}
+use Rattle.c_checker.specs.Scope.{ScopeNames}
+use Rattle.c_checker.specs.Expressions.{ExprCheck, typed, nothing, named_value, named_place, named_array, named_loose, subscripted, element, is_array, element_place, arguments, values}
 use Rattle.c_checker.specs.Expressions.{returned, call_of, call_function, takes, add_text, conversion_faults, format_faults, text_argument, print_text, print_nothing, call_simple}
 use Rattle.c_checker.specs.Expressions.{call_built_in, call_nothing, call_thing, call}
 use Rattle.c_checker.proofs.TypedLists.{front_more, front_then, front_last, nil_left, nil_right, unless_none, and_true, both_true}
@@ -49,7 +49,7 @@ pub same_self : (a : Ctype) → same_type a a ≡ true
 same_self Int = refl
 same_self Unsigned = refl
 
-module _ (final : typing.Names) where
+module _ (final : typing.Declarations) where
   -- what a name stands for is there in the whole program, and a function's parameters are known
   pub record HasFunction (params : ℕ → List Slot) (f : ℕ) (result : Option Ctype) : Type 0 where
     pub function : Function
@@ -64,18 +64,18 @@ module _ (final : typing.Names) where
   ThingFits params (t.BuiltIn b) = Unit {0}
   ThingFits params t.Unknown = Unit {0}
 
-  pub record NamesFit (names : Names) : Type 0 where
+  pub record NamesFit (names : ScopeNames) : Type 0 where
     pub things : (name : List ℕ) → ThingFits names.params (names.find name)
 
-module _ (final : typing.Names) (H : Type 0) where
+module _ (final : typing.Declarations) (H : Type 0) where
   -- what a part is checked for fits
-  pub record PartFits (p : Part) : Type 0 where
+  pub record PartFits (p : ExprCheck) : Type 0 where
     pub value : (used : Bool) → Good final.texts H (p.value used) (Used final used)
     pub place : (line : ℕ) → Good final.texts H (p.place line) (IsPlace final)
     pub array : (of : Ctype) → Good final.texts H (p.array of) (IsArray final of)
     pub loose : Good final.texts H p.loose (λ e. Unit {0})
 
-  abbrev pub AllFit : List Part → Type 0
+  abbrev pub AllFit : List ExprCheck → Type 0
   AllFit [] = Unit {0}
   AllFit (p ∷ ps) = PartFits p × AllFit ps
 
@@ -123,13 +123,13 @@ module _ (final : typing.Names) (H : Type 0) where
   subscripted_good params (t.BuiltIn b) line h = good_broken final.texts H _ _
   subscripted_good params t.Unknown line h = good_notes final.texts H (Undeclared line) (NotArray line ∷ []) _
 
-  pub element_good : (params : ℕ → List Slot) (x : Thing) (line : ℕ) (index : Part) → (H → ThingFits final params x) → PartFits index
+  pub element_good : (params : ℕ → List Slot) (x : Thing) (line : ℕ) (index : ExprCheck) → (H → ThingFits final params x) → PartFits index
       → Good final.texts H (element x line index) (IsPlace final)
   element_good params x line index h p =
       good_bind final.texts H {f = λ a. index.value true >>= (λ i. pure (typed (k.At a.0 i) a.1 line))} (subscripted_good params x line h) (λ a.
       good_map final.texts H (λ i. typed (k.At a.0 i) a.1 line) (p.value true) (λ i v s. element_is final a.0 a.1 i line s v))
 
-  pub element_place_good : (params : ℕ → List Slot) (x : Thing) (line : ℕ) (index : Part) (at : ℕ) → (H → ThingFits final params x) → PartFits index
+  pub element_place_good : (params : ℕ → List Slot) (x : Thing) (line : ℕ) (index : ExprCheck) (at : ℕ) → (H → ThingFits final params x) → PartFits index
       → Good final.texts H (element_place x line index at) (IsPlace final)
   element_place_good params x line index at h p =
       good_bind final.texts H {f = λ e. note (unless (is_array x) (NotAssignable at)) >> pure e} (element_good params x line index h p) (λ e.
@@ -144,7 +144,7 @@ module _ (final : typing.Names) (H : Type 0) where
   abbrev pub IsArgument : Slot → PExpr → Type 0
   IsArgument x e = IsArgumentBy x.array_param x.of e
 
-  argument_by : (a : Part) (b : Bool) (of : Ctype) → PartFits a → Good final.texts H (if b then a.array of else a.value true) (IsArgumentBy b of)
+  argument_by : (a : ExprCheck) (b : Bool) (of : Ctype) → PartFits a → Good final.texts H (if b then a.array of else a.value true) (IsArgumentBy b of)
   argument_by a true of p = p.array of
   argument_by a false of p = p.value true
 
@@ -175,7 +175,7 @@ module _ (final : typing.Names) (H : Type 0) where
     each = λ l. absurd (omega (arith, l));
   }
 
-  pub arguments_good : (params : List Slot) (before : List PExpr) (args : List Part) → AllFit args
+  pub arguments_good : (params : List Slot) (before : List PExpr) (args : List ExprCheck) → AllFit args
       → Good final.texts H (arguments params before args) (After params before (length args))
   arguments_good [] before [] h = good_pure final.texts H before (λ w. record { more = []; is = sym (append-nil before); each = λ l. tt })
   arguments_good (x ∷ xs) before [] h = good_pure final.texts H before (λ w. record { more = []; is = sym (append-nil before); each = λ l. absurd (omega (arith, l)) })
@@ -233,7 +233,7 @@ module _ (final : typing.Names) (H : Type 0) where
       (subst (λ l. fit_params (map (sort_of final) l) (h w).function.params ≡ true) (sym a.is)
       (arguments_fit (params f) (h w).function.params a.more (h w).same (a.each e))))
 
-  pub function_good : (params : ℕ → List Slot) (f : ℕ) (result : Option Ctype) (args : List Part) (line : ℕ) (used : Bool) → (H → HasFunction final params f result) → AllFit args
+  pub function_good : (params : ℕ → List Slot) (f : ℕ) (result : Option Ctype) (args : List ExprCheck) (line : ℕ) (used : Bool) → (H → HasFunction final params f result) → AllFit args
       → Good final.texts H (call_function f result (params f) args line used) (Used final used)
   function_good params f result args line used h fits =
       good_noted final.texts H (unless (length args == length (params f)) (Arity line))
@@ -256,7 +256,7 @@ module _ (final : typing.Names) (H : Type 0) where
     pub count : length more ≡ n
     pub each : EachValue more
 
-  pub values_good : (before : List PExpr) (args : List Part) → AllFit args → Good final.texts H (values before args) (Values before (length args))
+  pub values_good : (before : List PExpr) (args : List ExprCheck) → AllFit args → Good final.texts H (values before args) (Values before (length args))
   values_good before [] h = good_pure final.texts H before (λ w. record { more = []; is = sym (append-nil before); count = refl; each = tt })
   values_good before (a ∷ more) h =
       good_bind final.texts H {f = λ e. values (before ++ e ∷ []) more} (h.0.value true) (λ e.
@@ -282,7 +282,7 @@ module _ (final : typing.Names) (H : Type 0) where
       (k (map (sort_of final) a.more) (values_are a.more a.each)
       (ap (takes b) (length-map a.more (sort_of final) ∙ a.count) ∙ unless_none (takes b n) (Arity line) h)))
 
-  pub simple_good : (b : BuiltIn) (args : List Part) (line : ℕ) → TakesValues b → AllFit args → Good final.texts H (call_simple b args line) (IsValue final)
+  pub simple_good : (b : BuiltIn) (args : List ExprCheck) (line : ℕ) → TakesValues b → AllFit args → Good final.texts H (call_simple b args line) (IsValue final)
   simple_good b args line k fits =
       good_noted final.texts H (unless (takes b (length args)) (Arity line))
       (good_map final.texts H (λ xs. call_of (Built b) xs (Some Int) line) (values_good [] args fits) (λ xs a h. simple_done b (length args) line xs k a h))
@@ -314,7 +314,7 @@ module _ (final : typing.Names) (H : Type 0) where
       (subst (λ s. fits_built_in final.texts Printf (s ∷ map (sort_of final) a.more) ≡ true) (sym (text_is final t text at g))
       (print_fits text t n at line (map (sort_of final) a.more) g (values_are a.more a.each) (length-map a.more (sort_of final) ∙ a.count) few h)))
 
-  print_good : (text : List ℕ) (at : ℕ) (more : List Part) (line : ℕ) → AllFit more
+  print_good : (text : List ℕ) (at : ℕ) (more : List ExprCheck) (line : ℕ) → AllFit more
       → Good final.texts H (print_text text at more line) (λ y. nat_le (suc (length more)) 31 ≡ true → IsValue final y)
   print_good text at more line fits =
       let made : List PExpr → PExpr = λ xs. call_of (Built Printf) xs (Some Int) line in
@@ -327,17 +327,17 @@ module _ (final : typing.Names) (H : Type 0) where
       good_map final.texts H made (values_good (text_argument t at ∷ []) more fits) (λ xs a g few.
       print_done text t (length more) at line xs g a few (nil_right limit counts h))))
 
-  print_nothing_good : {P : PExpr → Type 0} (args : List Part) (line : ℕ) → AllFit args → Good final.texts H (print_nothing args line) P
+  print_nothing_good : {P : PExpr → Type 0} (args : List ExprCheck) (line : ℕ) → AllFit args → Good final.texts H (print_nothing args line) P
   print_nothing_good args line fits =
       good_bind final.texts H {f = λ u. pure (nothing line)} (good_after final.texts H {Q = λ u. ⊥} (Format line) (nothing line) (values_good [] args fits)) (λ u.
       good_pure final.texts H (nothing line) (λ w e. absurd e))
 
-  print_by : (o : Option (List ℕ)) (first : Part) (more : List Part) (line : ℕ) → AllFit (first ∷ more)
+  print_by : (o : Option (List ℕ)) (first : ExprCheck) (more : List ExprCheck) (line : ℕ) → AllFit (first ∷ more)
       → Good final.texts H (elim o [ None ↦ print_nothing (first ∷ more) line | Some text ↦ print_text text first.line more line ]) (λ y. nat_le (suc (length more)) 31 ≡ true → IsValue final y)
   print_by None first more line fits = print_nothing_good (first ∷ more) line fits
   print_by (Some text) first more line fits = print_good text first.line more line fits.1
 
-  pub built_in_good : (b : BuiltIn) (args : List Part) (line : ℕ) → AllFit args
+  pub built_in_good : (b : BuiltIn) (args : List ExprCheck) (line : ℕ) → AllFit args
       → Good final.texts H (call_built_in b args line) (λ y. nat_le (length args) 31 ≡ true → IsValue final y)
   built_in_good Printf [] line fits = print_nothing_good [] line fits
   built_in_good Printf (a ∷ more) line fits = print_by a.text a more line fits
@@ -352,12 +352,12 @@ module _ (final : typing.Names) (H : Type 0) where
 
   -- ---- calls
 
-  call_nothing_good : {P : PExpr → Type 0} (f : CheckFault) (args : List Part) (line : ℕ) → AllFit args → Good final.texts H (call_nothing f args line) P
+  call_nothing_good : {P : PExpr → Type 0} (f : CheckFault) (args : List ExprCheck) (line : ℕ) → AllFit args → Good final.texts H (call_nothing f args line) P
   call_nothing_good f args line fits =
       good_bind final.texts H {f = λ u. pure (nothing line)} (good_after final.texts H {Q = λ u. ⊥} f (nothing line) (arguments_good [] [] args fits)) (λ u.
       good_pure final.texts H (nothing line) (λ w e. absurd e))
 
-  thing_good : (names : Names) (x : Thing) (args : List Part) (line : ℕ) (used : Bool) → (H → ThingFits final names.params x) → AllFit args
+  thing_good : (names : ScopeNames) (x : Thing) (args : List ExprCheck) (line : ℕ) (used : Bool) → (H → ThingFits final names.params x) → AllFit args
       → Good final.texts H (call_thing names x args line used) (λ y. nat_le (length args) 31 ≡ true → Used final used y)
   thing_good names (t.Function f result) args line used h fits = good_weak final.texts H (function_good names.params f result args line used h fits) (λ y u few. u)
   thing_good names (t.BuiltIn b) args line used h fits = good_weak final.texts H (built_in_good b args line fits) (λ y u few. value_used final used y (u few))
@@ -365,7 +365,7 @@ module _ (final : typing.Names) (H : Type 0) where
   thing_good names (t.Scalar what of) args line used h fits = call_nothing_good (NotFunction line) args line fits
   thing_good names (t.Array what of) args line used h fits = call_nothing_good (NotFunction line) args line fits
 
-  pub call_good : (names : Names) (x : Thing) (args : List Part) (line : ℕ) (used : Bool) → (H → ThingFits final names.params x) → AllFit args
+  pub call_good : (names : ScopeNames) (x : Thing) (args : List ExprCheck) (line : ℕ) (used : Bool) → (H → ThingFits final names.params x) → AllFit args
       → Good final.texts H (call names x args line used) (Used final used)
   call_good names x args line used h fits =
       let few = nat_le (length args) 31 in

@@ -6,6 +6,7 @@ use Rattle.std.specs.List.{list_all}
 use Rattle.std.proofs.lemmas.List.{append-nil, length-set}
 use Rattle.std.proofs.lemmas.Bool.{le-leb, eq-eqb}
 use Rattle.nm_base.specs.declared.operator.Ctype.TheVariants.{Int}
+use Rattle.nm_base.specs.declared.limits.TheConstants.{MAX_DATA_WORDS}
 use Rattle.c_tree.specs.declared.program.Global.{Global}
 use Rattle.c_tree.specs.declared.program.Function.{Function}
 use Rattle.c_tree.specs.declared.program.Slot.{Slot}
@@ -28,7 +29,7 @@ use Rattle.c_checker.specs.Scope.{variable, find, params_of}
 use Rattle.c_checker.specs.Statements.{slots, outside}
 use Rattle.c_checker.specs.Units.{param_entries, head, with_body_of, body_begin, body_of, function_of, item, items, functions_of, missing, main_faults, number_of, body_at, whole}
 use Rattle.c_checker.specs.Units.{empty_file, checks}
-use Rattle.c_checker.specs.Law.{IsChecked, UnbrokenIsChecked}
+use Rattle.c_checker.specs.Laws.{IsChecked, UnbrokenIsChecked}
 use Rattle.c_checker.proofs.TypedLists.{front_same, get_next, nil_left, nil_right, unless_none, and_true, both_true, not_nil}
 use Rattle.c_checker.proofs.TypedParts.{ThingFits}
 use Rattle.c_checker.proofs.TypedBodies.{EntriesFit, append_fits, Ended, Known}
@@ -89,7 +90,7 @@ module _ (G : List Global) (F : List Function) (T : List (List ℕ)) where
     abbrev made : Function
     made = found.value
 
-    abbrev final : typing.Names
+    abbrev final : typing.Declarations
     final = names_with G F T (xs ++ made.locals)
 
     abbrev after : File
@@ -236,7 +237,7 @@ checked_parts tree n =
     let known = items_keep G F T tree.items empty_file first end (nothing_known G F T) in
     let functions = le-leb (length F) 512 (omega (arith, functions_count e.headings, known.heads)) in
     let globals = le-leb (length G) 1024 known.many in
-    let words = le-leb (words_of words_of_global G) 65536 (omega (arith, known.words, known.room)) in
+    let words = le-leb (words_of words_of_global G) MAX_DATA_WORDS (omega (arith, known.words, known.room)) in
     let main = ap (main_fits G F T) (main_at e.headings number none_missing good_main) ∙ main_is (body_at e.headings number) good_main in
     and_true (and_true (and_true (and_true (and_true (and_true functions globals) words) known.globals) (all_fit G F T e.headings known.bodies)) known.short) main
 

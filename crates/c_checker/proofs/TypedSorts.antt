@@ -20,7 +20,7 @@ use Rattle.c_tree.specs.declared.program.PKind.TheVariants as k
 use Rattle.c_tree.specs.declared.program.PKind.TheVariants.{rolls-Const, rolls-Text, rolls-Name, rolls-At, rolls-Call, rolls-Unary, rolls-Bump, rolls-Binary, rolls-And, rolls-Or}
 use Rattle.c_tree.specs.declared.program.PKind.TheVariants.{rolls-Choose, rolls-Comma, rolls-Assign}
 use Rattle.c_tree.specs.Typing as typing
-use Rattle.c_tree.specs.Typing.{Names, Sort, Value, Void, Array, Text, sort_of, sort_of_target, sort_of_call, sort_step, typed_step, agreed, is_value, is_effect, with_type}
+use Rattle.c_tree.specs.Typing.{Declarations, Sort, Value, Void, Array, Text, sort_of, sort_of_target, sort_of_call, sort_step, typed_step, agreed, is_value, is_effect, with_type}
 use Rattle.c_tree.specs.Typing.{with_place, where_true, element_of, unary_type, binary_type}
 use Rattle.c_checker.specs.Expressions.{typed, type_of, unary_of, binary_of, choose_of, and_of, or_of, comma_of, bump_of, assign_of, call_of, text_argument}
 
@@ -45,7 +45,7 @@ value_true s a p h = ap is_value h
 where_is : (b : Bool) (s : Sort) → b ≡ true → where_true b s ≡ s
 where_is b s h = ap (λ b. where_true b s) h
 
-module _ (names : Names) where
+module _ (names : Declarations) where
   abbrev pub kind_sort : PKind → Option Ctype → Sort
   kind_sort k = laid-PKind (family (Option Ctype → Sort) Sort) (steps (Option Ctype → Sort) Sort (sort_step names) (typed_step names)) k
 

@@ -29,7 +29,7 @@ use Rattle.c_checker.specs.declared.headings.Heading.{Heading}
 use Rattle.c_checker.specs.declared.state.Body.{Body}
 use Rattle.c_checker.specs.declared.state.Around.{Around}
 use Rattle.c_checker.specs.Found.{pure, ◌>>=◌}
-use Rattle.c_checker.specs.Scope.{Names, params_of}
+use Rattle.c_checker.specs.Scope.{ScopeNames, params_of}
 use Rattle.c_checker.specs.Statements.{Writes, slots, constant_pattern, label_faults, new_label, case_label, label, labels, outside, StmtPart, sequence, begin_block, end_block}
 use Rattle.c_checker.specs.Statements.{block_from, block, plain}
 use Rattle.c_checker.proofs.TypedLists.{unless_none, and_true, both_true, not_true, not_false}
@@ -85,7 +85,7 @@ label_differs before (Some n) line h d =
     (any_alike (λ x. same_label x (record { value = Some n; line = line })) (λ l. unwrap_or (option_map (λ m. m == n) l.value) false) (case_alike n line) before
     ∙ not_true _ (unless_none _ (DoubleCase line) h))
 
-module _ (final : typing.Names) (functions : List Heading) (ps : List Slot) where
+module _ (final : typing.Declarations) (functions : List Heading) (ps : List Slot) where
   -- labels after those of the switch before them
   pub record Labels (before : List PLabel) (n : ℕ) (s : Body) (all : List PLabel) (t : Body) : Type 0 where
     pub count : length all ≡ n
@@ -101,7 +101,7 @@ module _ (final : typing.Names) (functions : List Heading) (ps : List Slot) wher
   case_good before None line = good_pure final functions ps [] (λ s n e. cc)
   case_good before (Some m) line = good_weak final functions ps (new_label_good before (Some m) line) (λ s xs t h n e. h)
 
-  label_good : (names : Names) (before : List PLabel) (o : Option Expr) (line : ℕ) → Good final functions ps (label names before o line) (Labels before 1)
+  label_good : (names : ScopeNames) (before : List PLabel) (o : Option Expr) (line : ℕ) → Good final functions ps (label names before o line) (Labels before 1)
   label_good names before None line = new_label_good before None line
   label_good names before (Some e) line =
       let found = constant_pattern names e in
@@ -126,7 +126,7 @@ module _ (final : typing.Names) (functions : List Heading) (ps : List Slot) wher
     still = record { slots = g.still.slots ∙ h.still.slots; blocks = g.still.blocks ∙ h.still.blocks };
   }
 
-  pub labels_good : (names : Names) (before these : List PLabel) (ls : List Label) → Good final functions ps (labels names before these ls) (LabelsAfter before these (length ls))
+  pub labels_good : (names : ScopeNames) (before these : List PLabel) (ls : List Label) → Good final functions ps (labels names before these ls) (LabelsAfter before these (length ls))
   labels_good names before these [] = good_pure final functions ps these (λ s. record { count = omega arith; differ = λ d. d; still = still_same final functions ps s })
   labels_good names before these (l ∷ more) =
       good_bind final functions ps {f = λ xs. labels names before (these ++ xs) more} (label_good names (before ++ these) l.value l.line) (λ xs.
@@ -134,7 +134,7 @@ module _ (final : typing.Names) (functions : List Heading) (ps : List Slot) wher
 
 -- ---- one level of a checked statement
 
-module _ (names : typing.Names) (result : Option Ctype) where
+module _ (names : typing.Declarations) (result : Option Ctype) where
   abbrev pub check_arm : PArm → ArmCheck
   check_arm x = laid-PArm (pstmts StmtCheck ArmCheck) (pstmt_steps StmtCheck ArmCheck (check_step names result) (checks.arm_step names result)) x
 
@@ -206,7 +206,7 @@ module _ (names : typing.Names) (result : Option Ctype) where
 abbrev pub around_of : Around → checks.Around
 around_of a = record { loop = a.in_loop; breaks = a.breaks }
 
-module _ (final : typing.Names) (functions : List Heading) (ps : List Slot) (result : Option Ctype) where
+module _ (final : typing.Declarations) (functions : List Heading) (ps : List Slot) (result : Option Ctype) where
   abbrev pub Lays : Body → Body → List (List ℕ) → Type 0
   Lays s t bs = Laid final functions ps s t bs
 

@@ -7,6 +7,7 @@ use Rattle.std.proofs.lemmas.List.Folds.{list_all-append}
 use Rattle.std.proofs.lemmas.Bool.{leb-true, ltb-true}
 use Rattle.std.proofs.lemmas.Slice.Eq.{bytes_eq-Decides}
 use Rattle.nm_base.specs.declared.operator.Ctype.{Ctype}
+use Rattle.nm_base.specs.declared.limits.TheConstants.{MAX_DATA_WORDS}
 use Rattle.c_tree.specs.declared.program.Global.{Global}
 use Rattle.c_tree.specs.declared.program.Function.{Function}
 use Rattle.c_tree.specs.declared.program.Slot.{Slot}
@@ -27,7 +28,7 @@ use Rattle.c_checker.specs.declared.entries.Thing.{Thing}
 use Rattle.c_checker.specs.declared.entries.Thing.TheVariants as t
 use Rattle.c_checker.specs.declared.state.File.{File}
 use Rattle.c_checker.specs.Found.{Found, unless}
-use Rattle.c_checker.specs.Scope.{Names, variable, built_in, latest, find, params_of, params_of_heading, is_taken}
+use Rattle.c_checker.specs.Scope.{ScopeNames, variable, built_in, latest, find, params_of, params_of_heading, is_taken}
 use Rattle.c_checker.specs.Statements.{declr_faults, size}
 use Rattle.c_checker.specs.Units.{visible, visible_params, initial, global_of, global_entry, enter_global, global, globals, slot_of_param, param_name_faults, params, heading_of, first_head, head_of}
 use Rattle.c_checker.specs.Units.{head}
@@ -125,7 +126,7 @@ module _ (G : List Global) (F : List Function) (T : List (List ℕ)) where
   entries_and n (e ∷ es) fs a b = (a.0, entries_and n es fs a.1 b)
 
   -- in a function with these slots
-  abbrev pub names_with : List Slot → typing.Names
+  abbrev pub names_with : List Slot → typing.Declarations
   names_with slots = record { globals = G; functions = F; texts = T; slots = slots }
 
   heading_below : (hs : List Heading) (f : ℕ) → f < length hs → (h : Heading) × (slice_get hs f ≡ Some h)
@@ -175,7 +176,7 @@ module _ (G : List Global) (F : List Function) (T : List (List ℕ)) where
     pub globals : list_all global_fits s.globals ≡ true
     pub many : length s.globals ≤ 1024
     pub words : words_of words_of_global s.globals ≡ s.words
-    pub room : s.words ≤ 65536
+    pub room : s.words ≤ MAX_DATA_WORDS
     pub heads : length s.headings ≤ 512
     pub short : AllShort s.texts
     pub bodies : BodiesFit s.headings
@@ -186,7 +187,7 @@ module _ (G : List Global) (F : List Function) (T : List (List ℕ)) where
   words_more [] g = omega arith
   words_more (x ∷ xs) g = omega (arith, words_more xs g)
 
-  start_is : (names after : Names) (n o : Option Expr) (line : ℕ) → (is_none n || is_none o) ≡ true → (is_none (size names n line).value || (initial after o).value == 0) ≡ true
+  start_is : (names after : ScopeNames) (n o : Option Expr) (line : ℕ) → (is_none n || is_none o) ≡ true → (is_none (size names n line).value || (initial after o).value == 0) ≡ true
   start_is names after None o line h = refl
   start_is names after (Some e) None line h = refl
   start_is names after (Some e) (Some x) line h = cc
@@ -198,7 +199,7 @@ module _ (G : List Global) (F : List Function) (T : List (List ℕ)) where
       by None e = ap sort_of_global e
       by (Some m) e = ap sort_of_global e
 
-  size_some : (names : Names) (o : Option Expr) (line : ℕ) → is_some (size names o line).value ≡ is_some o
+  size_some : (names : ScopeNames) (o : Option Expr) (line : ℕ) → is_some (size names o line).value ≡ is_some o
   size_some names None line = refl
   size_some names (Some e) line = refl
 
@@ -219,7 +220,7 @@ module _ (G : List Global) (F : List Function) (T : List (List ℕ)) where
     made = global_of of d sized.value begun.value
 
     abbrev fits : Bool
-    fits = nat_le (s.words + words_of_global made) 65536
+    fits = nat_le (s.words + words_of_global made) MAX_DATA_WORDS
 
     record GlobalFine : Type 0 where
       name : is_name d.name ≡ true
@@ -264,7 +265,7 @@ module _ (G : List Global) (F : List Function) (T : List (List ℕ)) where
               ∙ and_true k.globals (and_true (and_true (and_true f.name f.length) (start_is (visible entered.state) (visible entered.state) d.size d.start d.line f.array)) refl);
           many = omega (arith, f.few, length-append s.globals (made ∷ []));
           words = words_more s.globals made ∙ ap (λ n. n + words_of_global made) k.words ∙ sym words;
-          room = omega (arith, words, leb-true (s.words + words_of_global made) 65536 f.words);
+          room = omega (arith, words, leb-true (s.words + words_of_global made) MAX_DATA_WORDS f.words);
           heads = k.heads;
           short = k.short;
           bodies = k.bodies;
@@ -288,7 +289,7 @@ module _ (G : List Global) (F : List Function) (T : List (List ℕ)) where
   param_fit x None before h = absurd (not_nil (TooMany x.line) [] [] h)
   param_fit x (Some name) before h = and_true (and_true (unless_none (is_name name) (TooMany x.line) (nil_left (unless (is_name name) (TooMany x.line)) _ h)) refl) refl
 
-  pub params_fit : (names : List Slot → Names) (before : List Slot) (more : List Param) → ParamsFit before → (params names true before more).faults ≡ []
+  pub params_fit : (names : List Slot → ScopeNames) (before : List Slot) (more : List Param) → ParamsFit before → (params names true before more).faults ≡ []
       → ParamsFit (params names true before more).value
   params_fit names before [] a h = a
   params_fit names before (x ∷ more) a h =

@@ -5,17 +5,17 @@ use Rattle.c_tree.specs.declared.tree.Expr.{Expr, roll-Expr, out-Expr, roll-out-
 use Rattle.c_tree.specs.declared.tree.Expr.TheVariants.{Name, At, Paren, Text, rolls-Text, rolls-Name, rolls-At, rolls-Paren}
 use Rattle.c_checker.specs.declared.fault.CheckFault.TheVariants.{NotArray, NotAssignable}
 use Rattle.c_checker.specs.Found.{Refuses}
-use Rattle.c_checker.specs.Scope.{Names}
+use Rattle.c_checker.specs.Scope.{ScopeNames}
 use Rattle.c_tree.specs.declared.tree.Expr.TheOpen.{Expr-F}
 use Rattle.c_tree.specs.declared.tree.Expr.TheFolds.{map-Expr}
-use Rattle.c_checker.specs.Expressions.{Part, part_step, part_of}
+use Rattle.c_checker.specs.Expressions.{ExprCheck, part_step, part_of}
 use Rattle.c_checker.proofs.Forms.{part_roll}
 
-module _ (names : Names) where
-  abbrev level : Expr-F Expr → Part
-  level x = part_step names (map-Expr Expr Part (part_of names) x)
+module _ (names : ScopeNames) where
+  abbrev level : Expr-F Expr → ExprCheck
+  level x = part_step names (map-Expr Expr ExprCheck (part_of names) x)
 
-  abbrev RefusesArray : Part → Type 0
+  abbrev RefusesArray : ExprCheck → Type 0
   RefusesArray p = (of : Ctype) (texts : List (List ℕ)) → Refuses (p.array of texts).faults (NotArray p.line)
 
   level_array : (x : Expr-F Expr) → ((n : List ℕ) (l : ℕ) → roll-Expr x ≡ Name n l → ⊥) → RefusesArray (level x)
@@ -29,7 +29,7 @@ module _ (names : Names) where
   pub refuses_array : (e : Expr) → ((n : List ℕ) (l : ℕ) → e ≡ Name n l → ⊥) → RefusesArray (part_of names e)
   refuses_array e = subst (λ e. ((n : List ℕ) (l : ℕ) → e ≡ Name n l → ⊥) → RefusesArray (part_of names e)) (roll-out-Expr e) (rolled_array (out-Expr e))
 
-  abbrev RefusesPlace : Part → Type 0
+  abbrev RefusesPlace : ExprCheck → Type 0
   RefusesPlace p = (target : ℕ) (texts : List (List ℕ)) → Refuses (p.place target texts).faults (NotAssignable target)
 
   record IsNoPlace (e : Expr) : Type 0 where

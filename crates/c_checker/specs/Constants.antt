@@ -25,7 +25,8 @@ unary_constant op a = record {
 abbrev pub binary_constant : BinaryOp → Constant → Constant → Constant
 binary_constant op a b = record {
   of = binary_type op a.of b.of;
-  bits = option_and_then (λ x. option_and_then (λ y. unless_fault (binary op (operation_type op a.of b.of) x y)) b.bits) a.bits;
+  bits = option_and_then
+      (λ x. option_and_then (λ y. unless_fault (binary op (operation_type op a.of b.of) x y)) b.bits) a.bits;
 }
 
 -- 1 or 0

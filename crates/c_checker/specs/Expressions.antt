@@ -24,7 +24,7 @@ use Rattle.c_checker.specs.declared.fault.CheckFault.{CheckFault}
 use Rattle.c_checker.specs.declared.fault.CheckFault.TheVariants.{Undeclared, Mismatch, NotFunction, Arity, NotArray, NotScalar, VoidValue, NotAssignable, Format, TooMany}
 use Rattle.c_checker.specs.declared.entries.Thing.{Thing}
 use Rattle.c_checker.specs.declared.entries.Thing.TheVariants.{Scalar, Array, Function as AFunction, BuiltIn as ABuiltIn, Unknown}
-use Rattle.c_checker.specs.Scope.{Names}
+use Rattle.c_checker.specs.Scope.{ScopeNames}
 use Rattle.c_checker.specs.Found.{Check, ◌>>=◌, ◌>>◌, pure, broken, unless, note}
 
 -- the state is the list of the texts so far
@@ -45,7 +45,7 @@ three l m n = do
   pure (x, y, z)
 
 -- what an expression is checked for
-pub record Part : Type 0 where
+pub record ExprCheck : Type 0 where
   pub line : ℕ
   -- its value, where the flag says that it is used
   pub value : Bool → Reads PExpr
@@ -109,7 +109,8 @@ named_place other line target = broken (NotAssignable target) (nothing line)
 
 -- as an argument for an array with elements of a type
 abbrev pub named_array : Thing → ℕ → Ctype → Reads PExpr
-named_array (Array what of) line wanted = if same_type of wanted then pure (typed (k.Name what) of line) else broken (Mismatch line) (nothing line)
+named_array (Array what of) line wanted =
+    if same_type of wanted then pure (typed (k.Name what) of line) else broken (Mismatch line) (nothing line)
 named_array Unknown line wanted = note (Undeclared line ∷ NotArray line ∷ []) >> pure (nothing line)
 named_array other line wanted = broken (NotArray line) (nothing line)
 
@@ -124,7 +125,7 @@ subscripted (Array what of) line = pure (what, of)
 subscripted Unknown line = note (Undeclared line ∷ NotArray line ∷ []) >> pure (AGlobal 0, Int)
 subscripted other line = broken (NotArray line) (AGlobal 0, Int)
 
-abbrev pub element : Thing → ℕ → Part → Reads PExpr
+abbrev pub element : Thing → ℕ → ExprCheck → Reads PExpr
 element thing line index = do
   a ← subscripted thing line
   i ← index.value true
@@ -135,7 +136,7 @@ is_array (Array what of) = true
 is_array other = false
 
 -- as a target
-abbrev pub element_place : Thing → ℕ → Part → ℕ → Reads PExpr
+abbrev pub element_place : Thing → ℕ → ExprCheck → ℕ → Reads PExpr
 element_place thing line index target = do
   e ← element thing line index
   note (unless (is_array thing) (NotAssignable target))
@@ -144,17 +145,17 @@ element_place thing line index target = do
 -- ---- calls
 
 -- the argument for a parameter
-abbrev pub argument : Part → Slot → Reads PExpr
+abbrev pub argument : ExprCheck → Slot → Reads PExpr
 argument a x = if x.array_param then a.array x.of else a.value true
 
 -- the arguments for these parameters, after those before them
-abbrev pub arguments : List Slot → List PExpr → List Part → Reads (List PExpr)
+abbrev pub arguments : List Slot → List PExpr → List ExprCheck → Reads (List PExpr)
 arguments params before [] = pure before
 arguments [] before (a ∷ more) = a.loose >>= (λ e. arguments [] (before ++ e ∷ []) more)
 arguments (x ∷ xs) before (a ∷ more) = argument a x >>= (λ e. arguments xs (before ++ e ∷ []) more)
 
 -- the same of a built-in function, whose arguments are values
-abbrev pub values : List PExpr → List Part → Reads (List PExpr)
+abbrev pub values : List PExpr → List ExprCheck → Reads (List PExpr)
 values before [] = pure before
 values before (a ∷ more) = a.value true >>= (λ e. values (before ++ e ∷ []) more)
 
@@ -166,7 +167,7 @@ returned used of line e = pure e
 abbrev pub call_of : Callee → List PExpr → Option Ctype → ℕ → PExpr
 call_of callee args of line = record { kind = k.Call callee args; of = of; line = line }
 
-abbrev pub call_function : ℕ → Option Ctype → List Slot → List Part → ℕ → Bool → Reads PExpr
+abbrev pub call_function : ℕ → Option Ctype → List Slot → List ExprCheck → ℕ → Bool → Reads PExpr
 call_function f result params args line used = do
   note (unless (length args == length params) (Arity line))
   xs ← arguments params [] args
@@ -189,12 +190,13 @@ conversion_faults (Some m) n text line = unless (m == n) (Format line)
 
 -- No text that is spelled has more than 509 bytes.
 abbrev pub format_faults : List ℕ → ℕ → ℕ → ℕ → List CheckFault
-format_faults text n at line = unless (nat_le (length text) 509) (TooMany line) ++ conversion_faults (conversions_from false text) n at line
+format_faults text n at line =
+    unless (nat_le (length text) 509) (TooMany line) ++ conversion_faults (conversions_from false text) n at line
 
 abbrev pub text_argument : ℕ → ℕ → PExpr
 text_argument text line = record { kind = k.Text text; of = None; line = line }
 
-abbrev pub print_text : List ℕ → ℕ → List Part → ℕ → Reads PExpr
+abbrev pub print_text : List ℕ → ℕ → List ExprCheck → ℕ → Reads PExpr
 print_text text at more line = do
   note (format_faults text (length more) at line)
   t ← add_text text
@@ -202,54 +204,55 @@ print_text text at more line = do
   pure (call_of (Built Printf) xs (Some Int) line)
 
 -- a call of printf without a text
-abbrev pub print_nothing : List Part → ℕ → Reads PExpr
+abbrev pub print_nothing : List ExprCheck → ℕ → Reads PExpr
 print_nothing args line = broken (Format line) (nothing line) >> values [] args >> pure (nothing line)
 
 -- a call of printf, by its first argument and the others
-abbrev pub print : Part → List Part → ℕ → Reads PExpr
+abbrev pub print : ExprCheck → List ExprCheck → ℕ → Reads PExpr
 print first more line = elim first.text [
   | None ↦ print_nothing (first ∷ more) line
   | Some text ↦ print_text text first.line more line
 ]
 
-abbrev pub call_printf : List Part → ℕ → Reads PExpr
+abbrev pub call_printf : List ExprCheck → ℕ → Reads PExpr
 call_printf [] line = print_nothing [] line
 call_printf (a ∷ more) line = print a more line
 
-abbrev pub call_simple : BuiltIn → List Part → ℕ → Reads PExpr
+abbrev pub call_simple : BuiltIn → List ExprCheck → ℕ → Reads PExpr
 call_simple b args line = do
   note (unless (takes b (length args)) (Arity line))
   xs ← values [] args
   pure (call_of (Built b) xs (Some Int) line)
 
-abbrev pub call_built_in : BuiltIn → List Part → ℕ → Reads PExpr
+abbrev pub call_built_in : BuiltIn → List ExprCheck → ℕ → Reads PExpr
 call_built_in Printf args line = call_printf args line
 call_built_in b args line = call_simple b args line
 
 -- a call of what is no function
-abbrev pub call_nothing : CheckFault → List Part → ℕ → Reads PExpr
+abbrev pub call_nothing : CheckFault → List ExprCheck → ℕ → Reads PExpr
 call_nothing f args line = broken f (nothing line) >> arguments [] [] args >> pure (nothing line)
 
-abbrev pub call_thing : Names → Thing → List Part → ℕ → Bool → Reads PExpr
+abbrev pub call_thing : ScopeNames → Thing → List ExprCheck → ℕ → Bool → Reads PExpr
 call_thing names (AFunction f result) args line used = call_function f result (names.params f) args line used
 call_thing names (ABuiltIn b) args line used = call_built_in b args line
 call_thing names Unknown args line used = call_nothing (Undeclared line) args line
 call_thing names other args line used = call_nothing (NotFunction line) args line
 
-abbrev pub call : Names → Thing → List Part → ℕ → Bool → Reads PExpr
-call names thing args line used = note (unless (nat_le (length args) 31) (TooMany line)) >> call_thing names thing args line used
+abbrev pub call : ScopeNames → Thing → List ExprCheck → ℕ → Bool → Reads PExpr
+call names thing args line used =
+    note (unless (nat_le (length args) 31) (TooMany line)) >> call_thing names thing args line used
 
 -- ---- expressions
 
-abbrev pub target : Part → Reads PExpr
+abbrev pub target : ExprCheck → Reads PExpr
 target e = e.place e.line
 
 -- the target of an assignment and its value
-abbrev pub stored : Part → Part → Reads (PExpr × PExpr)
+abbrev pub stored : ExprCheck → ExprCheck → Reads (PExpr × PExpr)
 stored place value = both (target place) (value.value true)
 
 -- one that is neither a place nor an array
-abbrev pub valued : ℕ → (Bool → Reads PExpr) → Part
+abbrev pub valued : ℕ → (Bool → Reads PExpr) → ExprCheck
 valued line value = record {
   line = line;
   value = value;
@@ -259,10 +262,11 @@ valued line value = record {
   text = None;
 }
 
-module _ (names : Names) where
-  abbrev pub part_step : Expr-F Part → Part
+module _ (names : ScopeNames) where
+  abbrev pub part_step : Expr-F ExprCheck → ExprCheck
   part_step (Expr-F.Const bits of line) = valued line (λ used. pure (typed (k.Const bits) of line))
-  part_step (Expr-F.Text bytes line) = record (valued line (λ used. broken (Format line) (nothing line))) { text = Some bytes }
+  part_step (Expr-F.Text bytes line) =
+      record (valued line (λ used. broken (Format line) (nothing line))) { text = Some bytes }
   part_step (Expr-F.Name name line) = record {
     line = line;
     value = λ used. named_value (names.find name) line;
@@ -272,7 +276,9 @@ module _ (names : Names) where
     text = None;
   }
   part_step (Expr-F.At name index line) =
-      record (valued line (λ used. element (names.find name) line index)) { place = element_place (names.find name) line index }
+      record (valued line (λ used. element (names.find name) line index)) {
+        place = element_place (names.find name) line index;
+      }
   part_step (Expr-F.Call name args line) = valued line (call names (names.find name) args line)
   part_step (Expr-F.Paren part line) = record (valued line part.value) { place = part.place }
   part_step (Expr-F.Unary op part line) = valued line (λ used. do
@@ -300,8 +306,8 @@ module _ (names : Names) where
     p ← stored place value
     pure (assign_of op p.0 p.1 line))
 
-  unfoldable pub part_of : Expr → Part
-  part_of e = laid-Expr (family Part) (steps Part part_step) e
+  unfoldable pub part_of : Expr → ExprCheck
+  part_of e = laid-Expr (family ExprCheck) (steps ExprCheck part_step) e
 
 -- the line of an expression's first token
 abbrev pub first_line : Expr → ℕ

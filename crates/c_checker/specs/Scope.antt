@@ -11,7 +11,7 @@ use Rattle.c_checker.specs.declared.entries.Thing.{Thing}
 use Rattle.c_checker.specs.declared.entries.Thing.TheVariants.{Scalar, Array, BuiltIn, Unknown}
 
 -- what names stand for, and the parameters of each function
-pub record Names : Type 0 where
+pub record ScopeNames : Type 0 where
   pub find : List ℕ → Thing
   pub params : ℕ → List Slot
 
@@ -46,7 +46,7 @@ params_of_heading (Some f) = f.params
 abbrev pub params_of : List Heading → ℕ → List Slot
 params_of functions f = params_of_heading (slice_get functions f)
 
-abbrev pub names_of : List Entry → List Heading → Names
+abbrev pub names_of : List Entry → List Heading → ScopeNames
 names_of entries functions = record { find = find entries; params = params_of functions }
 
 -- ---- names that are declared again

@@ -2,6 +2,7 @@
 use Rattle.std.specs.Prelude.{ℕ, ◌+◌, Bool, true, false, not, ◌==◌, nat_lt, nat_le, ◌&&◌, ◌||◌, List, [], ◌∷◌, ◌++◌, length, take, drop, Option, Some, None, is_some, is_none, unwrap_or, option_map}
 use Rattle.std.specs.List.{list_any}
 use Rattle.nm_base.specs.declared.operator.Ctype.{Ctype}
+use Rattle.nm_base.specs.declared.limits.TheConstants.{MAX_DATA_WORDS}
 use Rattle.c_tree.specs.declared.program.Slot.{Slot}
 use Rattle.c_tree.specs.declared.program.Start.{Start}
 use Rattle.c_tree.specs.declared.program.Target.TheVariants.{Slot as ASlot}
@@ -28,7 +29,7 @@ use Rattle.c_checker.specs.declared.entries.Entry.{Entry}
 use Rattle.c_checker.specs.declared.state.Body.{Body}
 use Rattle.c_checker.specs.declared.state.Around.{Around}
 use Rattle.c_checker.specs.Constants.{constant_of}
-use Rattle.c_checker.specs.Scope.{Names, names_of, variable, is_taken}
+use Rattle.c_checker.specs.Scope.{ScopeNames, names_of, variable, is_taken}
 use Rattle.c_checker.specs.Found.{Found, Check, fine, ◌>>=◌, ◌>>◌, pure, lift, unless, note}
 use Rattle.c_checker.specs.Expressions.{part_of, first_line}
 
@@ -48,7 +49,7 @@ bits_of None = None
 bits_of (Some c) = c.bits
 
 -- the rules that the parts of an expression break
-abbrev pub inner_faults : Names → Expr → List CheckFault
+abbrev pub inner_faults : ScopeNames → Expr → List CheckFault
 inner_faults names e = ((part_of names e).value true []).faults
 
 abbrev pub constant_bits : Option ℕ → List CheckFault → Found (Unit {0}) (Option ℕ)
@@ -56,18 +57,19 @@ constant_bits None faults = record { value = None; state = tt; faults = faults }
 constant_bits (Some n) faults = fine (Some n) tt
 
 -- a constant expression's pattern, if it is one
-abbrev pub constant_pattern : Names → Expr → Found (Unit {0}) (Option ℕ)
+abbrev pub constant_pattern : ScopeNames → Expr → Found (Unit {0}) (Option ℕ)
 constant_pattern names e = constant_bits (bits_of (constant_of e)) (NotConstant (first_line e) ∷ inner_faults names e)
 
 abbrev pub size_faults : Option ℕ → ℕ → List CheckFault
 size_faults None line = []
-size_faults (Some n) line = unless (nat_le 1 n && nat_le n 65536) (BadSize line)
+size_faults (Some n) line = unless (nat_le 1 n && nat_le n MAX_DATA_WORDS) (BadSize line)
 
 -- a size, by the line of its array's name
-abbrev pub size_of : Names → Expr → ℕ → Found (Unit {0}) (Option ℕ)
-size_of names e line = ((λ s. constant_pattern names e) >>= (λ n. note (size_faults n line) >> pure (Some (unwrap_or n 1)))) tt
+abbrev pub size_of : ScopeNames → Expr → ℕ → Found (Unit {0}) (Option ℕ)
+size_of names e line =
+    ((λ s. constant_pattern names e) >>= (λ n. note (size_faults n line) >> pure (Some (unwrap_or n 1)))) tt
 
-abbrev pub size : Names → Option Expr → ℕ → Found (Unit {0}) (Option ℕ)
+abbrev pub size : ScopeNames → Option Expr → ℕ → Found (Unit {0}) (Option ℕ)
 size names None line = fine None tt
 size names (Some e) line = size_of names e line
 
@@ -75,7 +77,8 @@ size names (Some e) line = size_of names e line
 
 -- No name that is spelled has another length, and no array has an initialiser.
 abbrev pub declr_faults : Declr → List CheckFault
-declr_faults d = unless (is_name d.name) (TooMany d.line) ++ unless (is_none d.size || is_none d.start) (NotScalar d.line)
+declr_faults d =
+    unless (is_name d.name) (TooMany d.line) ++ unless (is_none d.size || is_none d.start) (NotScalar d.line)
 
 -- ---- locals
 
@@ -91,7 +94,9 @@ slots s = s.params + length s.locals
 
 -- of a local in a block whose names begin at this entry
 abbrev pub local_faults : ℕ → Declr → Body → List CheckFault
-local_faults from d s = declr_faults d ++ unless (not (is_taken d.name (drop from s.entries))) (Twice d.line) ++ unless (nat_lt (slots s) 256) (TooMany d.line)
+local_faults from d s =
+    declr_faults d ++ unless (not (is_taken d.name (drop from s.entries))) (Twice d.line)
+    ++ unless (nat_lt (slots s) 256) (TooMany d.line)
 
 abbrev pub new_local : Ctype → ℕ → Declr → Option ℕ → Writes ℕ
 new_local of block d n = λ s. fine (slots s) (record s {
@@ -122,14 +127,15 @@ case_label before None line = pure []
 case_label before (Some n) line = new_label before (Some n) line
 
 -- a label without a constant breaks no other rule
-abbrev pub label : {S : Type 0} → Names → List PLabel → Option Expr → ℕ → Check S (List PLabel)
+abbrev pub label : {S : Type 0} → ScopeNames → List PLabel → Option Expr → ℕ → Check S (List PLabel)
 label names before None line = new_label before None line
 label names before (Some e) line = lift (constant_pattern names e) >>= (λ n. case_label before n line)
 
 -- labels of one arm, after those of the switch before them
-abbrev pub labels : {S : Type 0} → Names → List PLabel → List PLabel → List Label → Check S (List PLabel)
+abbrev pub labels : {S : Type 0} → ScopeNames → List PLabel → List PLabel → List Label → Check S (List PLabel)
 labels names before these [] = pure these
-labels names before these (l ∷ more) = label names (before ++ these) l.value l.line >>= (λ xs. labels names before (these ++ xs) more)
+labels names before these (l ∷ more) =
+    label names (before ++ these) l.value l.line >>= (λ xs. labels names before (these ++ xs) more)
 
 -- ---- statements
 
@@ -165,11 +171,12 @@ return_faults result (Some e) line = unless (is_some result) (VoidValue line)
 
 abbrev pub arms : List ArmPart → List PLabel → List PArm → ℕ → Around → Writes (List PArm)
 arms [] before these line around = pure these
-arms (x ∷ more) before these line around = x.check before line around >>= (λ y. arms more (before ++ y.labels) (these ++ y ∷ []) line around)
+arms (x ∷ more) before these line around =
+    x.check before line around >>= (λ y. arms more (before ++ y.labels) (these ++ y ∷ []) line around)
 
 module _ (functions : List Heading) where
   -- with the names that are visible now
-  abbrev pub visible : Body → Names
+  abbrev pub visible : Body → ScopeNames
   visible s = names_of s.entries functions
 
   abbrev pub value : Bool → Expr → Writes PExpr
@@ -199,7 +206,8 @@ module _ (functions : List Heading) where
   -- after those before them
   abbrev pub declares : Ctype → ℕ → ℕ → List Start → List Declr → Writes (List Start)
   declares of from block before [] = pure before
-  declares of from block before (d ∷ more) = declare of from block d >>= (λ x. declares of from block (before ++ x ∷ []) more)
+  declares of from block before (d ∷ more) =
+      declare of from block d >>= (λ x. declares of from block (before ++ x ∷ []) more)
 
   abbrev pub locals : ℕ → ℕ → List Start → List Vars → Writes (List Start)
   locals from block before [] = pure before
@@ -290,7 +298,8 @@ module _ (functions : List Heading) where
     xs ← sequence [] list around
     pure (record { labels = ls; list = xs })
 
-  -- A statement as a function's body. One that isn't a block, which none that is spelled is, stands for a block of it alone.
+  -- A statement as a function's body. One that isn't a block, which none that is spelled is, stands for a block of it
+  -- alone.
   abbrev pub alone : (Around → Writes PStmt) → ℕ → ℕ → Writes PStmt
   alone check line from = block_from from [] (record { check = check; body = λ _. check outside } ∷ []) line outside
 
@@ -308,7 +317,8 @@ module _ (functions : List Heading) (result : Option Ctype) where
   stmt_step (Stmt-F.If test first second line) = plain functions line (if_stmt functions test first second line)
   stmt_step (Stmt-F.While test body line) = plain functions line (λ around. while_stmt functions test body line)
   stmt_step (Stmt-F.Do body test line) = plain functions line (λ around. do_stmt functions body test line)
-  stmt_step (Stmt-F.For first test third body line) = plain functions line (λ around. for_stmt functions first test third body line)
+  stmt_step (Stmt-F.For first test third body line) =
+      plain functions line (λ around. for_stmt functions first test third body line)
   stmt_step (Stmt-F.Break line) = plain functions line (break_stmt functions line)
   stmt_step (Stmt-F.Continue line) = plain functions line (continue_stmt functions line)
   stmt_step (Stmt-F.Return e line) = plain functions line (λ around. return_stmt functions result e line)

@@ -5,6 +5,7 @@ use Rattle.std.specs.List.{list_any}
 use Rattle.std.specs.Str.{bytes_eq}
 use Rattle.nm_base.specs.declared.operator.Ctype.{Ctype}
 use Rattle.nm_base.specs.declared.operator.Ctype.TheVariants.{Int}
+use Rattle.nm_base.specs.declared.limits.TheConstants.{MAX_DATA_WORDS}
 use Rattle.c_tree.specs.declared.program.Global.{Global}
 use Rattle.c_tree.specs.declared.program.Function.{Function}
 use Rattle.c_tree.specs.declared.program.Slot.{Slot}
@@ -29,7 +30,7 @@ use Rattle.c_checker.specs.declared.entries.Thing.{Thing}
 use Rattle.c_checker.specs.declared.entries.Thing.TheVariants.{Function as AFunction}
 use Rattle.c_checker.specs.declared.state.Body.{Body}
 use Rattle.c_checker.specs.declared.state.File.{File}
-use Rattle.c_checker.specs.Scope.{Names, names_of, variable, find, built_in, is_built_in, is_taken}
+use Rattle.c_checker.specs.Scope.{ScopeNames, names_of, variable, find, built_in, is_built_in, is_taken}
 use Rattle.c_checker.specs.Found.{Found, Check, IsIn, fine, ◌>>=◌, ◌>>◌, pure, lift, unless, note}
 use Rattle.c_checker.specs.Statements.{declr_faults, size, constant_pattern, stmt_of}
 
@@ -39,13 +40,13 @@ Files A = Check File A
 abbrev pub get : Files File
 get = λ s. fine s s
 
-abbrev pub visible : File → Names
+abbrev pub visible : File → ScopeNames
 visible s = names_of s.entries s.headings
 
 -- ---- globals
 
 -- the pattern of a global's initialiser, 0 without one
-abbrev pub initial : Names → Option Expr → Found (Unit {0}) ℕ
+abbrev pub initial : ScopeNames → Option Expr → Found (Unit {0}) ℕ
 initial names None = fine 0 tt
 initial names (Some e) = ((λ s. constant_pattern names e) >>= (λ n. pure (unwrap_or n 0))) tt
 
@@ -72,7 +73,7 @@ enter_global e line = λ s.
 -- A global with which the words pass the limit isn't counted.
 abbrev pub count_words : Global → ℕ → Files (Unit {0})
 count_words g line = λ s.
-    let fits = nat_le (s.words + words_of_global g) 65536 in
+    let fits = nat_le (s.words + words_of_global g) MAX_DATA_WORDS in
     record {
       value = tt;
       state = record s { words = if fits then s.words + words_of_global g else s.words };
@@ -117,16 +118,18 @@ is_taken_param name before = is_built_in (built_in name) || list_any (λ x. byte
 -- Every parameter of a definition that is spelled has a name.
 abbrev pub param_name_faults : Bool → List Slot → Option (List ℕ) → ℕ → List CheckFault
 param_name_faults defines before None line = unless (not defines) (TooMany line)
-param_name_faults defines before (Some name) line = unless (is_name name) (TooMany line) ++ unless (not (is_taken_param name before)) (Twice line)
+param_name_faults defines before (Some name) line =
+    unless (is_name name) (TooMany line) ++ unless (not (is_taken_param name before)) (Twice line)
 
 abbrev pub param_faults : Bool → List Slot → Param → List CheckFault
-param_faults defines before x = param_name_faults defines before x.name x.line ++ unless (nat_lt (length before) 31) (TooMany x.line)
+param_faults defines before x =
+    param_name_faults defines before x.name x.line ++ unless (nat_lt (length before) 31) (TooMany x.line)
 
 -- what is visible in the size of a parameter: the parameters before it, too
-abbrev pub visible_params : File → List Slot → Names
+abbrev pub visible_params : File → List Slot → ScopeNames
 visible_params s before = names_of (s.entries ++ param_entries 0 before) s.headings
 
-module _ (names : List Slot → Names) (defines : Bool) where
+module _ (names : List Slot → ScopeNames) (defines : Bool) where
   -- the parameters after those before them, of a definition or not
   abbrev pub params : List Slot → List Param → Found (Unit {0}) (List Slot)
   params before [] = fine before tt
@@ -152,17 +155,21 @@ same_result (Some a) b = is_typed b a
 abbrev pub later_faults : Option Heading → Head → List Slot → Bool → List CheckFault
 later_faults None h xs defines = []
 later_faults (Some f) h xs defines =
-    unless (same_result f.result h.result && same_kinds f.params xs) (Mismatch h.line) ++ unless (not (defines && is_some f.body)) (Twice h.line)
+    unless (same_result f.result h.result && same_kinds f.params xs) (Mismatch h.line)
+    ++ unless (not (defines && is_some f.body)) (Twice h.line)
 
 -- its number
 abbrev pub later_head : ℕ → Head → List Slot → Bool → Files ℕ
-later_head f h xs defines = λ s. record { value = f; state = s; faults = later_faults (slice_get s.headings f) h xs defines }
+later_head f h xs defines =
+    λ s. record { value = f; state = s; faults = later_faults (slice_get s.headings f) h xs defines }
 
 abbrev pub heading_of : Head → List Slot → Heading
 heading_of h xs = record { name = h.name; result = h.result; params = xs; line = h.line; body = None }
 
 abbrev pub first_faults : Head → File → List CheckFault
-first_faults h s = unless (is_name h.name) (TooMany h.line) ++ unless (not (is_taken h.name s.entries)) (Twice h.line) ++ unless (nat_lt (length s.headings) 512) (TooMany h.line)
+first_faults h s =
+    unless (is_name h.name) (TooMany h.line) ++ unless (not (is_taken h.name s.entries)) (Twice h.line)
+    ++ unless (nat_lt (length s.headings) 512) (TooMany h.line)
 
 -- the number of a function with its first head
 abbrev pub first_head : Head → List Slot → Files ℕ
@@ -197,14 +204,22 @@ with_body headings f made = with_body_of headings f made (slice_get headings f)
 
 -- what is known at the beginning of a function's body
 abbrev pub body_begin : File → List Slot → Body
-body_begin s xs = record { texts = s.texts; params = length xs; locals = []; entries = s.entries ++ param_entries 0 xs; blocks = 0 }
+body_begin s xs =
+    record { texts = s.texts; params = length xs; locals = []; entries = s.entries ++ param_entries 0 xs; blocks = 0 }
 
 -- The names of the outermost block begin with the parameters.
 abbrev pub body_of : File → Head → List Slot → Stmt → Found Body Function
 body_of s h xs body =
     let b = (stmt_of s.headings h.result body).body (length s.entries) (body_begin s xs) in
     record {
-      value = record { name = h.name; result = h.result; params = xs; locals = b.state.locals; body = b.value; line = h.line };
+      value = record {
+        name = h.name;
+        result = h.result;
+        params = xs;
+        locals = b.state.locals;
+        body = b.value;
+        line = h.line;
+      };
       state = b.state;
       faults = b.faults;
     }
@@ -265,7 +280,8 @@ abbrev pub whole : File → Found (Unit {0}) Parts
 whole s =
     let main = number_of (find s.entries (codes "main")) in
     record {
-      value = record { globals = s.globals; functions = functions_of s.headings; main = unwrap_or main 0; texts = s.texts };
+      value =
+          record { globals = s.globals; functions = functions_of s.headings; main = unwrap_or main 0; texts = s.texts };
       state = tt;
       faults = missing s.headings ++ main_faults (body_at s.headings main);
     }

@@ -6,19 +6,20 @@ ghost use Rattle.c_tree.specs.Checks as checks;
 ghost use Rattle.c_checker.specs.declared.fault.CheckFault.TheVariants.{NotConstant};
 ghost use Rattle.c_checker.specs.Constants.{constant_of};
 ghost use Rattle.c_checker.specs.Expressions.{first_line};
-ghost use Rattle.c_checker.specs.Found.{Gives, Refuses, Tests};
-ghost use Rattle.c_checker.specs.Scope.{Names};
+ghost use Rattle.c_checker.specs.Found.{CheckGives, Refuses, Tests};
+ghost use Rattle.c_checker.specs.Scope.{ScopeNames};
 ghost use Rattle.c_checker.specs.Statements as spec;
 
 use crate::constants::evaluate;
 use crate::entries::{Entry, variable};
-use crate::expr::{line_of, value};
+use crate::expr::value;
 use crate::fault::CheckFault;
 use crate::headings::Heading;
 use crate::scope::Scope;
 use crate::state::Body;
+use crate::typed::line_of;
 use c_tree::{Declr, Expr, PExpr, Slot, Start, Target, Vars};
-use nm_base::{Ctype, List};
+use nm_base::{Ctype, List, MAX_DATA_WORDS};
 use std::alloc::Global;
 
 /// The most bytes of a name.
@@ -26,7 +27,7 @@ const MAX_NAME_LEN: usize = 63;
 /// The most parameters and locals of a function.
 const MAX_SLOTS: u64 = 256;
 /// The most elements of an array.
-const MAX_LENGTH: u32 = 65536;
+const MAX_LENGTH: u32 = MAX_DATA_WORDS;
 
 fn is_ascii(mut bytes: &[u8]) -> bool
     ensures { result ≡ list_all (λ b. nat_lt b 128) bytes.entry.now }
@@ -69,7 +70,7 @@ pub fn pattern(e: &Expr) -> Result<u32, CheckFault>
 
 /// A size, by the line of its array's name.
 pub fn size(e: &Option<Expr>, line: u32) -> Result<Option<u32>, CheckFault>
-    ensures { (names : Names) → Gives (spec.size names e.now line) result tt }
+    ensures { (names : ScopeNames) → CheckGives (spec.size names e.now line) result tt }
 {
     match e {
         Some(e) => {
@@ -123,7 +124,7 @@ pub fn expression(
     e: &Expr,
     used: bool,
 ) -> Result<PExpr, CheckFault>
-    ensures { Gives (spec.value functions.now used e.now body.old) result body.new }
+    ensures { CheckGives (spec.value functions.now used e.now body.old) result body.new }
 {
     let scope = Scope {
         entries: &body.entries,
@@ -140,7 +141,7 @@ pub fn optional(
     e: &Option<Expr>,
     used: bool,
 ) -> Result<Option<PExpr>, CheckFault>
-    ensures { Gives (spec.optional functions.now used e.now body.old) result body.new }
+    ensures { CheckGives (spec.optional functions.now used e.now body.old) result body.new }
 {
     match e {
         Some(e) => Ok(Some(expression(alloc, functions, body, e, used)?)),
@@ -159,7 +160,7 @@ fn new_local(
     slot: u32,
 ) -> Result<u32, CheckFault>
     requires { slot ≡ spec.slots body.old }
-    ensures { Gives (spec.new_local of block d.now length body.old) result body.new }
+    ensures { CheckGives (spec.new_local of block d.now length body.old) result body.new }
 {
     let local = Slot {
         name: d.name.copy(alloc)?,
@@ -188,7 +189,7 @@ fn add_local(
     block: u32,
     d: &Declr,
 ) -> Result<u32, CheckFault>
-    ensures { Gives (spec.add_local functions.now of from block d.now body.old) result body.new }
+    ensures { CheckGives (spec.add_local functions.now of from block d.now body.old) result body.new }
 {
     let slot = free_slot(from, d, body)?;
     let length = size(&d.size, d.line)?;
@@ -206,7 +207,7 @@ fn declare(
     block: u32,
     d: &Declr,
 ) -> Result<Start, CheckFault>
-    ensures { Gives (spec.declare functions.now of from block d.now body.old) result body.new }
+    ensures { CheckGives (spec.declare functions.now of from block d.now body.old) result body.new }
 {
     let slot = add_local(alloc, functions, body, of, from, block, d)?;
     let value = optional(alloc, functions, body, &d.start, true)?;
@@ -229,7 +230,7 @@ fn declares(
     mut list: List<Start>,
     mut declrs: &[Declr],
 ) -> Result<List<Start>, CheckFault>
-    ensures { Gives (spec.declares functions.now of from block list declrs.entry.now body.old) result body.new }
+    ensures { CheckGives (spec.declares functions.now of from block list declrs.entry.now body.old) result body.new }
 {
     while let [d, rest @ ..] = declrs {
         let start = declare(alloc, functions, body, of, from, block, d)?;
@@ -249,7 +250,7 @@ fn locals(
     block: u32,
     mut vars: &[Vars],
 ) -> Result<List<Start>, CheckFault>
-    ensures { Gives (spec.locals functions.now from block [] vars.entry.now body.old) result body.new }
+    ensures { CheckGives (spec.locals functions.now from block [] vars.entry.now body.old) result body.new }
 {
     let mut list = List::from_vec(Vec::new(alloc));
     while let [v, rest @ ..] = vars {
@@ -268,7 +269,8 @@ fn locals(
     Ok(list)
 }
 
-/// Begins a block whose names begin at the entry `from`, with its declarations. More blocks than there are numbers take more memory than there is.
+/// Begins a block whose names begin at the entry `from`, with its declarations. More blocks than there are numbers take
+/// more memory than there is.
 pub fn begin_block(
     alloc: Global,
     functions: &[Heading],
@@ -276,7 +278,7 @@ pub fn begin_block(
     from: usize,
     vars: &[Vars],
 ) -> Result<List<Start>, CheckFault>
-    ensures { Gives (spec.begin_block functions.now from vars.now body.old) result body.new }
+    ensures { CheckGives (spec.begin_block functions.now from vars.now body.old) result body.new }
 {
     let block = body.blocks;
     body.blocks = block.checked_add(1).ok_or(CheckFault::Memory)?;

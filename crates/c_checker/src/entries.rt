@@ -50,7 +50,7 @@ impl Model for Entries {
 
     ghost Value = { List Entry };
 
-    ghost use Rattle.c_checker.specs.Places.{entries_of, Keeps};
+    ghost use Rattle.c_checker.specs.private.Places.{entries_of, Keeps};
 
     ghost view = { λ e. entries_of e.held.items };
 
@@ -58,7 +58,7 @@ impl Model for Entries {
 }
 
 ghost use Rattle.c_checker.specs.Scope as spec;
-ghost use Rattle.c_checker.specs.Places.{place, place_in};
+ghost use Rattle.c_checker.specs.private.Places.{place, place_in};
 
 /// Puts an entry after the others.
 fn hold(held: &mut Vec<Held>, item: Held) -> Result<(), AllocError>
@@ -75,7 +75,9 @@ fn put_place(
     name: Vec<u8>,
     place: usize,
 ) -> Result<(), AllocError>
-    ensures ok { OnOk result ((other : List ℕ) → place_in places.new other ≡ cond (bytes_eq name.items other) (Some place) (place_in places.old other)) }
+    ensures ok { OnOk result
+        ((other : List ℕ) → place_in places.new other
+        ≡ cond (bytes_eq name.items other) (Some place) (place_in places.old other)) }
     ensures err { OnErr result (IsUnchanged places.old places.new) }
 {
     places.insert(name, Some(place))?;
@@ -85,7 +87,8 @@ fn put_place(
 /// Changes the place under a name.
 fn set_place(places: &mut BTreeMap<Vec<u8>, Option<usize>>, name: &[u8], place: Option<usize>)
     requires { IsSome (place_in places.old name.now) }
-    ensures { (other : List ℕ) → place_in places.new other ≡ cond (bytes_eq name.now other) place (place_in places.old other) }
+    ensures { (other : List ℕ) → place_in places.new other
+        ≡ cond (bytes_eq name.now other) place (place_in places.old other) }
 {
     if let Some(found) = places.get_mut(name) {
         *found = place;

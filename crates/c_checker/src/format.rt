@@ -3,7 +3,7 @@
 ghost use Rattle.std.specs.Prelude.{◌≡◌, ◌≤◌, false, length, IfSome};
 ghost use Rattle.c_tree.specs.Typing as typing;
 ghost use Rattle.c_tree.specs.Typing.{conversions_from};
-ghost use Rattle.c_checker.specs.Found.{Gives, Tests};
+ghost use Rattle.c_checker.specs.Found.{CheckGives, Tests};
 ghost use Rattle.c_checker.specs.Expressions as spec;
 
 use crate::fault::CheckFault;
@@ -13,7 +13,8 @@ use std::alloc::Global;
 /// The most bytes of a text.
 const MAX_TEXT_LEN: usize = 509;
 
-/// The number of conversions, or `None` where a `%` is not followed by `d`, `u`, `x`, `c` or `%`. A text is short, so it recurses.
+/// The number of conversions, or `None` where a `%` is not followed by `d`, `u`, `x`, `c` or `%`. A text is short, so
+/// it recurses.
 fn conversions(text: &[u8], after_percent: bool) -> Option<usize>
     ensures value { result ≡ conversions_from after_percent text.now }
     ensures few { IfSome result (λ n. n ≤ length text.now) }
@@ -59,7 +60,7 @@ pub fn test_format(text: &[u8], args: usize, at: u32, line: u32) -> Result<(), C
 
 /// Adds a text, and gives its number.
 pub fn add_text(alloc: Global, texts: &mut List<Bytes>, text: &Bytes) -> Result<u32, CheckFault>
-    ensures { Gives (spec.add_text text.now texts.old) result texts.new }
+    ensures { CheckGives (spec.add_text text.now texts.old) result texts.new }
 {
     let number = texts.as_slice().len();
     if number > 0xffff_ffff {

@@ -1,7 +1,7 @@
 //! Functions, units and whole trees.
 
 ghost use Rattle.std.specs.Prelude.{◌≡◌, [], ◌++◌, Some, codes, length, unwrap_or, IfOk, IfErr, OnOk};
-ghost use Rattle.c_checker.specs.Found.{Gives, Refuses, Tests};
+ghost use Rattle.c_checker.specs.Found.{CheckGives, Refuses, Tests};
 ghost use Rattle.c_checker.specs.Scope.{find};
 ghost use Rattle.c_checker.specs.Units as spec;
 ghost use Rattle.c_checker.specs.Units.{checks, Checked};
@@ -37,7 +37,8 @@ fn enter_params(
     entries: &mut Entries,
     mut params: &[Slot],
 ) -> Result<u32, WantOfMemory>
-    ensures { IfOk result (λ n. (entries.new ≡ entries.old ++ spec.param_entries 0 params.entry.now) × (n ≡ length params.entry.now)) }
+    ensures { IfOk result
+        (λ n. (entries.new ≡ entries.old ++ spec.param_entries 0 params.entry.now) × (n ≡ length params.entry.now)) }
 {
     let mut number: u32 = 0;
     while let [param, rest @ ..] = params {
@@ -77,7 +78,9 @@ fn check_body(
     params: List<Slot>,
     body: &Stmt,
 ) -> Result<Function, CheckFault>
-    ensures yes { IfOk result (λ f. ((spec.body_of file.old head.now params body.now).faults ≡ []) × (f ≡ (spec.body_of file.old head.now params body.now).value)
+    ensures yes { IfOk result
+        (λ f. ((spec.body_of file.old head.now params body.now).faults ≡ [])
+        × (f ≡ (spec.body_of file.old head.now params body.now).value)
         × (file.new ≡ record file.old { texts = (spec.body_of file.old head.now params body.now).state.texts })) }
     ensures no { IfErr result (λ f. Refuses (spec.body_of file.old head.now params body.now).faults f) }
 {
@@ -112,7 +115,7 @@ fn function(
     params: List<Slot>,
     body: &Stmt,
 ) -> Result<(), CheckFault>
-    ensures { Gives (spec.function_of number head.now params body.now file.old) result file.new }
+    ensures { CheckGives (spec.function_of number head.now params body.now file.old) result file.new }
 {
     let made = check_body(alloc, file, head, params, body)?;
     file.headings.give_body(number, made);
@@ -121,7 +124,7 @@ fn function(
 
 #[tactic(auto, using(crate::proofs::Found::refuses_left))]
 fn define(alloc: Global, file: &mut File, h: &Head, body: &Stmt) -> Result<(), CheckFault>
-    ensures { Gives (spec.define h.now body.now file.old) result file.new }
+    ensures { CheckGives (spec.define h.now body.now file.old) result file.new }
 {
     let (number, params) = head(alloc, file, h, true)?;
     function(alloc, file, number, h, params, body)
@@ -129,14 +132,14 @@ fn define(alloc: Global, file: &mut File, h: &Head, body: &Stmt) -> Result<(), C
 
 #[tactic(auto, using(crate::proofs::Found::refuses_left))]
 fn declare(alloc: Global, file: &mut File, h: &Head) -> Result<(), CheckFault>
-    ensures { Gives (spec.declare h.now file.old) result file.new }
+    ensures { CheckGives (spec.declare h.now file.old) result file.new }
 {
     head(alloc, file, h, false)?;
     Ok(())
 }
 
 fn item(alloc: Global, file: &mut File, item: &Item) -> Result<(), CheckFault>
-    ensures { Gives (spec.item item.now file.old) result file.new }
+    ensures { CheckGives (spec.item item.now file.old) result file.new }
 {
     match item {
         Item::Vars(vars) => globals(alloc, file, vars.of, vars.list.as_slice()),
@@ -147,7 +150,7 @@ fn item(alloc: Global, file: &mut File, item: &Item) -> Result<(), CheckFault>
 
 #[tactic(auto, using(crate::proofs::Found::refuses_left))]
 fn items(alloc: Global, file: &mut File, mut list: &[Item]) -> Result<(), CheckFault>
-    ensures { Gives (spec.items list.entry.now file.old) result file.new }
+    ensures { CheckGives (spec.items list.entry.now file.old) result file.new }
 {
     while let [first, rest @ ..] = list {
         item(alloc, file, first)?;
@@ -171,9 +174,14 @@ fn test_main(function: &Function) -> Result<(), CheckFault>
 
 /// The number of `main`.
 fn main_number(file: &File) -> Result<u32, CheckFault>
-    ensures yes { IfOk result (λ n. (spec.main_faults (spec.body_at file.now.headings (spec.number_of (find file.now.entries (codes "main")))) ≡ [])
+    ensures yes { IfOk result
+        (λ n. (spec.main_faults (spec.body_at file.now.headings (spec.number_of (find file.now.entries (codes "main"))))
+        ≡ [])
         × (n ≡ unwrap_or (spec.number_of (find file.now.entries (codes "main"))) 0)) }
-    ensures no { IfErr result (λ f. Refuses (spec.main_faults (spec.body_at file.now.headings (spec.number_of (find file.now.entries (codes "main"))))) f) }
+    ensures no { IfErr result
+        (λ f. Refuses
+        (spec.main_faults
+        (spec.body_at file.now.headings (spec.number_of (find file.now.entries (codes "main"))))) f) }
 {
     match file.entries.find(b"main".as_slice()) {
         Thing::Function { number, .. } => {
@@ -197,7 +205,8 @@ fn main_number(file: &File) -> Result<u32, CheckFault>
     }
 }
 
-/// Turns a tree into the program that it stands for, if it breaks no rule. Then each name is replaced by the number of what it denotes, each expression has its type, and parentheses are gone.
+/// Turns a tree into the program that it stands for, if it breaks no rule. Then each name is replaced by the number of
+/// what it denotes, each expression has its type, and parentheses are gone.
 /// Otherwise one of the rules that it breaks is named with its line, or memory was refused.
 pub fn check(alloc: Global, tree: &Tree) -> Result<Program, CheckFault>
     ensures yes { IfOk result (λ p. Checked tree.now p) }

@@ -1,8 +1,8 @@
 //! Global variables.
 
 ghost use Rattle.std.specs.Prelude.{◌≡◌, [], length, IfOk, IfErr};
-ghost use Rattle.c_checker.specs.Found.{Gives, Refuses};
-ghost use Rattle.c_checker.specs.Scope.{Names};
+ghost use Rattle.c_checker.specs.Found.{CheckGives, Refuses};
+ghost use Rattle.c_checker.specs.Scope.{ScopeNames};
 ghost use Rattle.c_checker.specs.Units as spec;
 ghost use Rattle.c_tree.specs.Storage as storage;
 
@@ -11,17 +11,17 @@ use crate::entries::{Entry, variable as thing_of};
 use crate::fault::CheckFault;
 use crate::state::File;
 use c_tree::{Declr, Expr, Global as Variable, Target};
-use nm_base::Ctype;
+use nm_base::{Ctype, MAX_DATA_WORDS};
 use std::alloc::Global;
 
 /// The most globals.
 const MAX_GLOBALS: usize = 1024;
 /// The most words of the globals.
-const MAX_WORDS: u64 = 65536;
+const MAX_WORDS: u64 = MAX_DATA_WORDS as u64;
 
 /// The pattern of an initialiser, 0 without one.
 fn initial(e: &Option<Expr>) -> Result<u32, CheckFault>
-    ensures { (names : Names) → Gives (spec.initial names e.now) result tt }
+    ensures { (names : ScopeNames) → CheckGives (spec.initial names e.now) result tt }
 {
     match e {
         Some(e) => pattern(e),
@@ -51,7 +51,7 @@ fn enter_global(
     d: &Declr,
     number: u32,
 ) -> Result<(), CheckFault>
-    ensures { Gives (spec.enter_global (spec.global_entry of d.now number) d.now.line file.old) result file.new }
+    ensures { CheckGives (spec.enter_global (spec.global_entry of d.now number) d.now.line file.old) result file.new }
 {
     if file.entries.is_taken(d.name.as_slice(), 0) {
         return Err(CheckFault::Twice { line: d.line });
@@ -73,7 +73,7 @@ fn words_of(variable: &Variable) -> u32
 
 /// Counts the words of a global.
 fn count_words(file: &mut File, variable: &Variable, line: u32) -> Result<(), CheckFault>
-    ensures { Gives (spec.count_words variable.now line file.old) result file.new }
+    ensures { CheckGives (spec.count_words variable.now line file.old) result file.new }
 {
     let words = u64::from(file.words) + u64::from(words_of(variable));
     if words > MAX_WORDS {
@@ -85,7 +85,7 @@ fn count_words(file: &mut File, variable: &Variable, line: u32) -> Result<(), Ch
 
 /// Adds a global after the others.
 fn add_global(alloc: Global, file: &mut File, variable: Variable) -> Result<(), CheckFault>
-    ensures { Gives (spec.add_global variable file.old) result file.new }
+    ensures { CheckGives (spec.add_global variable file.old) result file.new }
 {
     file.globals.push(alloc, variable)?;
     Ok(())
@@ -94,7 +94,7 @@ fn add_global(alloc: Global, file: &mut File, variable: Variable) -> Result<(), 
 /// A global of a type.
 #[tactic(auto, using(crate::proofs::Found::refuses_left))]
 fn global(alloc: Global, file: &mut File, of: Ctype, d: &Declr) -> Result<(), CheckFault>
-    ensures { Gives (spec.global of d.now file.old) result file.new }
+    ensures { CheckGives (spec.global of d.now file.old) result file.new }
 {
     let number = free_number(file, d)?;
     enter_global(alloc, file, of, d, number)?;
@@ -118,7 +118,7 @@ pub fn globals(
     of: Ctype,
     mut list: &[Declr],
 ) -> Result<(), CheckFault>
-    ensures { Gives (spec.globals of list.entry.now file.old) result file.new }
+    ensures { CheckGives (spec.globals of list.entry.now file.old) result file.new }
 {
     while let [d, rest @ ..] = list {
         global(alloc, file, of, d)?;

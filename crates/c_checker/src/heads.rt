@@ -3,8 +3,8 @@
 ghost use Rattle.std.specs.Prelude.{◌≡◌, List, [], Some, length, unwrap_or, IfOk, IfErr};
 ghost use Rattle.std.specs.List.{list_any};
 ghost use Rattle.std.specs.Str.{bytes_eq};
-ghost use Rattle.c_checker.specs.Found.{Gives, Refuses, Tests};
-ghost use Rattle.c_checker.specs.Scope.{Names};
+ghost use Rattle.c_checker.specs.Found.{CheckGives, Refuses, Tests};
+ghost use Rattle.c_checker.specs.Scope.{ScopeNames};
 ghost use Rattle.c_tree.specs.declared.program.Slot.{Slot};
 ghost use Rattle.c_checker.specs.Units as spec;
 
@@ -97,7 +97,7 @@ fn slot_of_param(alloc: Global, param: &Param) -> Result<Slot, WantOfMemory>
 
 /// The parameters of a head.
 fn params(alloc: Global, defines: bool, mut list: &[Param]) -> Result<List<Slot>, CheckFault>
-    ensures { (names : List Slot → Names) → Gives (spec.params names defines [] list.entry.now) result tt }
+    ensures { (names : List Slot → ScopeNames) → CheckGives (spec.params names defines [] list.entry.now) result tt }
 {
     let mut before = List::from_vec(Vec::new(alloc));
     while let [param, rest @ ..] = list {
@@ -166,7 +166,7 @@ fn later_head(
     params: &[Slot],
     defines: bool,
 ) -> Result<u32, CheckFault>
-    ensures { Gives (spec.later_head number head.now params.now defines file.now) result file.now }
+    ensures { CheckGives (spec.later_head number head.now params.now defines file.now) result file.now }
 {
     if let Some(first) = file.headings.as_slice().get(number as usize) {
         test_later(first, head, params, defines)?;
@@ -226,7 +226,7 @@ fn first_head(
     head: &Head,
     params: &[Slot],
 ) -> Result<u32, CheckFault>
-    ensures { Gives (spec.first_head head.now params.now file.old) result file.new }
+    ensures { CheckGives (spec.first_head head.now params.now file.old) result file.new }
 {
     let number = test_first(file, head)?;
     let heading = Heading {
@@ -257,7 +257,7 @@ fn head_of(
     params: &[Slot],
     defines: bool,
 ) -> Result<u32, CheckFault>
-    ensures { Gives (spec.head_of thing head.now params.now defines file.old) result file.new }
+    ensures { CheckGives (spec.head_of thing head.now params.now defines file.old) result file.new }
 {
     match thing {
         Thing::Function { number, .. } => later_head(file, number, head, params, defines),
@@ -275,7 +275,7 @@ pub fn head(
     head: &Head,
     defines: bool,
 ) -> Result<(u32, List<Slot>), CheckFault>
-    ensures { Gives (spec.head head.now defines file.old) result file.new }
+    ensures { CheckGives (spec.head head.now defines file.old) result file.new }
 {
     let params = params(alloc, defines, head.params.as_slice())?;
     let thing = file.entries.find(head.name.as_slice());

@@ -4,8 +4,8 @@ ghost use Rattle.std.specs.Prelude.{◌≡◌, ℕ, List, [], ◌∷◌, ◌++�
 ghost use Rattle.std.specs.Ordering.{nat_cmp};
 ghost use Rattle.std.specs.BTreeSet.{contains, IsUnchanged};
 ghost use Rattle.c_checker.specs.declared.state.Body.{Body};
-ghost use Rattle.c_checker.specs.Found.{Gives, Refuses, Tests, fine};
-ghost use Rattle.c_checker.specs.Scope.{Names};
+ghost use Rattle.c_checker.specs.Found.{CheckGives, Refuses, Tests, fine};
+ghost use Rattle.c_checker.specs.Scope.{ScopeNames};
 ghost use Rattle.c_checker.specs.Statements as spec;
 
 use crate::body::pattern;
@@ -28,7 +28,7 @@ pub struct Labels {
 impl Model for Labels {
     ghost use Rattle.std.specs.Prelude.{List};
     ghost use Rattle.c_tree.specs.declared.program.PLabel.{PLabel};
-    ghost use Rattle.c_checker.specs.Patterns.{Knows};
+    ghost use Rattle.c_checker.specs.private.Patterns.{Knows};
 
     ghost Value = { List PLabel };
 
@@ -48,7 +48,8 @@ fn add_label(list: &mut Vec<PLabel>, label: PLabel) -> Result<(), AllocError>
 
 /// Puts a pattern among those of the cases.
 fn add_case(cases: &mut BTreeSet<u32>, bits: u32) -> Result<(), AllocError>
-    ensures ok { OnOk result ((n : ℕ) → contains nat_cmp cases.new n ≡ cond (nat_eq bits n) true (contains nat_cmp cases.old n)) }
+    ensures ok { OnOk result
+        ((n : ℕ) → contains nat_cmp cases.new n ≡ cond (nat_eq bits n) true (contains nat_cmp cases.old n)) }
     ensures err { OnErr result (IsUnchanged cases.old cases.new) }
 {
     cases.insert(bits)?;
@@ -112,8 +113,12 @@ fn test_label(before: &Labels, value: Option<u32>, line: u32) -> Result<(), Chec
 
 /// A label after those of the switch before it.
 fn make_label(before: &Labels, label: &Label) -> Result<PLabel, CheckFault>
-    ensures yes { IfOk result (λ x. (names : Names) (s : Body) → spec.label names before.now label.now.value label.now.line s ≡ fine (x ∷ []) s) }
-    ensures no { IfErr result (λ f. (names : Names) (s : Body) → Refuses (spec.label names before.now label.now.value label.now.line s).faults f) }
+    ensures yes { IfOk result
+        (λ x. (names : ScopeNames) (s : Body)
+        → spec.label names before.now label.now.value label.now.line s ≡ fine (x ∷ []) s) }
+    ensures no { IfErr result
+        (λ f. (names : ScopeNames) (s : Body)
+        → Refuses (spec.label names before.now label.now.value label.now.line s).faults f) }
 {
     let value = match &label.value {
         Some(e) => Some(pattern(e)?),
@@ -132,7 +137,8 @@ pub fn make_labels(
     before: &mut Labels,
     mut list: &[Label],
 ) -> Result<List<PLabel>, CheckFault>
-    ensures found { (names : Names) (s : Body) → Gives (spec.labels names before.old [] list.entry.now s) result s }
+    ensures found { (names : ScopeNames) (s : Body)
+        → CheckGives (spec.labels names before.old [] list.entry.now s) result s }
     ensures added { IfOk result (λ these. before.new ≡ before.old ++ these) }
 {
     let mut these = List::from_vec(Vec::new(alloc));

@@ -15,7 +15,8 @@ pub fn program_of(
     texts: List<Bytes>,
 ) -> Program
     requires unbroken { (checks tree.now).faults ≡ [] }
-    requires same { (checks tree.now).value ≡ record { globals = globals; functions = functions; main = main; texts = texts } }
+    requires same { (checks tree.now).value
+        ≡ record { globals = globals; functions = functions; main = main; texts = texts } }
     ensures { Checked tree.now result }
 {
     Program {

@@ -1,9 +1,9 @@
 //! Statements.
 
 ghost use Rattle.std.specs.Prelude.{◌≡◌, [], ◌∷◌, ◌++◌, map, option_map, IfOk};
-ghost use Rattle.c_checker.specs.Found.{Gives};
+ghost use Rattle.c_checker.specs.Found.{CheckGives};
 ghost use Rattle.c_checker.specs.Statements as spec;
-ghost use Rattle.c_checker.specs.Statements.{stmt_of, arm_of};
+ghost use Rattle.c_checker.specs.private.InScope.{stmt_in, arm_in};
 
 use crate::body::{begin_block, expression, optional};
 use crate::fault::CheckFault;
@@ -61,14 +61,14 @@ fn run(
     part: &Expr,
     line: u32,
 ) -> Result<PStmt, CheckFault>
-    ensures { Gives (spec.run functions.now part.now line body.old) result body.new }
+    ensures { CheckGives (spec.run functions.now part.now line body.old) result body.new }
 {
     let part = expression(alloc, functions, body, part, false)?;
     Ok(PStmt::Run { part, line })
 }
 
 fn break_stmt(around: Around, line: u32) -> Result<PStmt, CheckFault>
-    ensures { (s : _) → Gives (spec.break_stmt [] line around s) result s }
+    ensures { (s : _) → CheckGives (spec.break_stmt [] line around s) result s }
 {
     if around.breaks {
         Ok(PStmt::Break { line })
@@ -78,7 +78,7 @@ fn break_stmt(around: Around, line: u32) -> Result<PStmt, CheckFault>
 }
 
 fn continue_stmt(around: Around, line: u32) -> Result<PStmt, CheckFault>
-    ensures { (s : _) → Gives (spec.continue_stmt [] line around s) result s }
+    ensures { (s : _) → CheckGives (spec.continue_stmt [] line around s) result s }
 {
     if around.in_loop {
         Ok(PStmt::Continue { line })
@@ -94,7 +94,8 @@ fn return_stmt(
     value: &Option<Expr>,
     line: u32,
 ) -> Result<PStmt, CheckFault>
-    ensures { Gives (spec.return_stmt within.now.functions.now within.now.returns value.now line body.old) result body.new }
+    ensures { CheckGives
+        (spec.return_stmt within.now.functions.now within.now.returns value.now line body.old) result body.new }
 {
     if value.is_some() && within.returns.is_none() {
         return Err(CheckFault::VoidValue { line });
@@ -113,7 +114,7 @@ fn controls(
     test: &Option<Expr>,
     third: &Option<Expr>,
 ) -> Result<(Option<PExpr>, Option<PExpr>, Option<PExpr>), CheckFault>
-    ensures { Gives (spec.controls functions.now first.now test.now third.now body.old) result body.new }
+    ensures { CheckGives (spec.controls functions.now first.now test.now third.now body.old) result body.new }
 {
     let first = optional(alloc, functions, body, first, false)?;
     let test = optional(alloc, functions, body, test, true)?;
@@ -133,8 +134,8 @@ fn block_from(
     line: u32,
     around: Around,
 ) -> Result<PStmt, CheckFault>
-    ensures { Gives (spec.block_from within.now.functions.now from vars.now
-        (map (stmt_of within.now.functions.now within.now.returns) list.now) line around body.old) result body.new }
+    ensures { CheckGives (spec.block_from within.now.functions.now from vars.now
+        (map (stmt_in within.now) list.now) line around body.old) result body.new }
 {
     let visible = body.entries.len();
     let locals = begin_block(within.alloc, within.functions, body, from, vars)?;
@@ -153,7 +154,8 @@ fn block(
     line: u32,
     around: Around,
 ) -> Result<PStmt, CheckFault>
-    ensures { Gives (spec.block within.now.functions.now vars.now (map (stmt_of within.now.functions.now within.now.returns) list.now) line around body.old) result body.new }
+    ensures { CheckGives (spec.block within.now.functions.now vars.now
+        (map (stmt_in within.now) list.now) line around body.old) result body.new }
 {
     let from = body.entries.len();
     block_from(within, body, from, vars, list, line, around)
@@ -168,7 +170,8 @@ fn sequence(
     mut list: &[Stmt],
     around: Around,
 ) -> Result<List<PStmt>, CheckFault>
-    ensures { Gives (spec.sequence [] (map (stmt_of within.now.functions.now within.now.returns) list.entry.now) around body.old) result body.new }
+    ensures { CheckGives (spec.sequence []
+        (map (stmt_in within.now) list.entry.now) around body.old) result body.new }
 {
     let mut done = List::from_vec(Vec::new(within.alloc));
     while let [first, rest @ ..] = list {
@@ -188,7 +191,7 @@ fn part(
     inner: &Stmt,
     around: Around,
 ) -> Result<Boxed<PStmt>, CheckFault>
-    ensures { Gives ((stmt_of within.now.functions.now within.now.returns inner.now).check around body.old) result body.new }
+    ensures { CheckGives ((stmt_in within.now inner.now).check around body.old) result body.new }
 {
     let made = stmt(within, body, inner, around)?;
     Ok(Boxed::new(within.alloc, made)?)
@@ -201,7 +204,8 @@ fn else_part(
     inner: &Option<Boxed<Stmt>>,
     around: Around,
 ) -> Result<Option<Boxed<PStmt>>, CheckFault>
-    ensures { Gives (spec.else_part (option_map (stmt_of within.now.functions.now within.now.returns) inner.now) around body.old) result body.new }
+    ensures { CheckGives (spec.else_part
+        (option_map (stmt_in within.now) inner.now) around body.old) result body.new }
 {
     match inner {
         Some(inner) => Ok(Some(part(within, body, inner.get(), around)?)),
@@ -220,8 +224,8 @@ fn if_stmt(
     line: u32,
     around: Around,
 ) -> Result<PStmt, CheckFault>
-    ensures { Gives (spec.if_stmt within.now.functions.now test.now (stmt_of within.now.functions.now within.now.returns yes.now)
-        (option_map (stmt_of within.now.functions.now within.now.returns) no.now) line around body.old) result body.new }
+    ensures { CheckGives (spec.if_stmt within.now.functions.now test.now (stmt_in within.now yes.now)
+        (option_map (stmt_in within.now) no.now) line around body.old) result body.new }
 {
     let test = expression(within.alloc, within.functions, body, test, true)?;
     let yes = part(within, body, yes, around)?;
@@ -243,7 +247,8 @@ fn while_stmt(
     inner: &Stmt,
     line: u32,
 ) -> Result<PStmt, CheckFault>
-    ensures { Gives (spec.while_stmt within.now.functions.now test.now (stmt_of within.now.functions.now within.now.returns inner.now) line body.old) result body.new }
+    ensures { CheckGives (spec.while_stmt within.now.functions.now test.now
+        (stmt_in within.now inner.now) line body.old) result body.new }
 {
     let test = expression(within.alloc, within.functions, body, test, true)?;
     let inner = part(within, body, inner, inside_loop())?;
@@ -263,7 +268,8 @@ fn do_stmt(
     test: &Expr,
     line: u32,
 ) -> Result<PStmt, CheckFault>
-    ensures { Gives (spec.do_stmt within.now.functions.now (stmt_of within.now.functions.now within.now.returns inner.now) test.now line body.old) result body.new }
+    ensures { CheckGives (spec.do_stmt within.now.functions.now
+        (stmt_in within.now inner.now) test.now line body.old) result body.new }
 {
     let inner = part(within, body, inner, inside_loop())?;
     let test = expression(within.alloc, within.functions, body, test, true)?;
@@ -285,8 +291,8 @@ fn for_stmt(
     inner: &Stmt,
     line: u32,
 ) -> Result<PStmt, CheckFault>
-    ensures { Gives (spec.for_stmt within.now.functions.now first.now test.now third.now
-        (stmt_of within.now.functions.now within.now.returns inner.now) line body.old) result body.new }
+    ensures { CheckGives (spec.for_stmt within.now.functions.now first.now test.now third.now
+        (stmt_in within.now inner.now) line body.old) result body.new }
 {
     let (first, test, third) = controls(within.alloc, within.functions, body, first, test, third)?;
     let inner = part(within, body, inner, inside_loop())?;
@@ -310,7 +316,7 @@ fn arm(
     line: u32,
     around: Around,
 ) -> Result<PArm, CheckFault>
-    ensures found { Gives ((arm_of within.now.functions.now within.now.returns arm.now).check before.old line around body.old) result body.new }
+    ensures found { CheckGives ((arm_in within.now arm.now).check before.old line around body.old) result body.new }
     ensures added { IfOk result (λ y. before.new ≡ before.old ++ y.labels) }
 {
     let these = arm.labels.as_slice();
@@ -332,7 +338,8 @@ fn arms(
     line: u32,
     around: Around,
 ) -> Result<List<PArm>, CheckFault>
-    ensures { Gives (spec.arms (map (arm_of within.now.functions.now within.now.returns) arms.entry.now) [] [] line around body.old) result body.new }
+    ensures { CheckGives (spec.arms (map (arm_in within.now) arms.entry.now) [] [] line around body.old)
+        result body.new }
 {
     let mut before = Labels::new(within.alloc);
     let mut done = List::from_vec(Vec::new(within.alloc));
@@ -354,7 +361,8 @@ fn switch_stmt(
     line: u32,
     around: Around,
 ) -> Result<PStmt, CheckFault>
-    ensures { Gives (spec.switch_stmt within.now.functions.now on.now (map (arm_of within.now.functions.now within.now.returns) list.now) line around body.old) result body.new }
+    ensures { CheckGives (spec.switch_stmt within.now.functions.now on.now
+        (map (arm_in within.now) list.now) line around body.old) result body.new }
 {
     let on = expression(within.alloc, within.functions, body, on, true)?;
     let arms = arms(within, body, list, line, inside_switch(around))?;
@@ -370,7 +378,7 @@ pub fn stmt(
     s: &Stmt,
     around: Around,
 ) -> Result<PStmt, CheckFault>
-    ensures { Gives ((stmt_of within.now.functions.now within.now.returns s.now).check around body.old) result body.new }
+    ensures { CheckGives ((stmt_in within.now s.now).check around body.old) result body.new }
 {
     match s {
         Stmt::Block { locals, list, line } => {
@@ -420,10 +428,10 @@ pub fn stmt(
 /// The list of one statement.
 #[tactic(auto, using(crate::proofs::Found::refuses_left))]
 fn only(within: &Within<'_>, body: &mut Body, s: &Stmt) -> Result<List<PStmt>, CheckFault>
-    ensures { Gives (spec.sequence [] (record {
-      check = (stmt_of within.now.functions.now within.now.returns s.now).check;
+    ensures { CheckGives (spec.sequence [] (record {
+      check = (stmt_in within.now s.now).check;
       body = λ _.
-          (stmt_of within.now.functions.now within.now.returns s.now).check spec.outside;
+          (stmt_in within.now s.now).check spec.outside;
     } ∷
         []) spec.outside body.old) result body.new }
 {
@@ -442,7 +450,8 @@ fn alone(
     from: usize,
     line: u32,
 ) -> Result<PStmt, CheckFault>
-    ensures { Gives (spec.alone within.now.functions.now (stmt_of within.now.functions.now within.now.returns s.now).check line from body.old) result body.new }
+    ensures { CheckGives (spec.alone within.now.functions.now
+        (stmt_in within.now s.now).check line from body.old) result body.new }
 {
     let visible = body.entries.len();
     let locals = begin_block(within.alloc, within.functions, body, from, &[])?;
@@ -458,7 +467,7 @@ pub fn function_body(
     s: &Stmt,
     from: usize,
 ) -> Result<PStmt, CheckFault>
-    ensures { Gives ((stmt_of within.now.functions.now within.now.returns s.now).body from body.old) result body.new }
+    ensures { CheckGives ((stmt_in within.now s.now).body from body.old) result body.new }
 {
     match s {
         Stmt::Block { locals, list, line } => {

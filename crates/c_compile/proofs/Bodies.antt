@@ -4,9 +4,9 @@ use Rattle.stack_code.specs.declared.code.Block.{Block}
 use Rattle.stack_code.specs.Blocks.{entered_in, table_of}
 use Rattle.c_compile.specs.Asm.{Laid, nothing, ◌⨾◌}
 use Rattle.c_compile.specs.StmtCode.{Blocks}
-use Rattle.c_compile.specs.Emitted.{after}
+use Rattle.c_compile.specs.private.Emitted.{after}
 use Rattle.c_compile.specs.declared.body.Body.{Body}
-use Rattle.c_compile.specs.Body.{steps_of, blocks_of, IsLaidOut, Extends, Wrote, Opened, Closed}
+use Rattle.c_compile.specs.private.Body.{steps_of, blocks_of, IsLaidOut, Extends, Wrote, Opened, Closed}
 use Rattle.c_compile.proofs.Emit.{seq, after_nothing}
 use Rattle.c_compile.proofs.Tables.{extends_keeps}
 

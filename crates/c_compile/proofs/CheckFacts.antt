@@ -2,6 +2,7 @@
 use Rattle.std.proofs.Common.{◌≡◌, ℕ, zero, suc, ◌+◌, Bool, true, false, List, [], ◌∷◌, ◌++◌, length, Some, subst}
 use Rattle.std.specs.Prelude.{◌&&◌, nat_le, slice_get}
 use Rattle.std.specs.List.{list_all}
+use Rattle.nm_base.specs.declared.limits.TheConstants.{MAX_DATA_WORDS}
 use Rattle.c_tree.specs.declared.program.Global.{Global}
 use Rattle.c_tree.specs.declared.program.Function.{Function}
 use Rattle.c_tree.specs.Storage.{words_of_global, words_of}
@@ -29,7 +30,7 @@ pub record FunctionFacts (globals : List Global) (functions : List Function) (te
 
 pub record ProgramFacts (globals : List Global) (functions : List Function) (texts : List (List ℕ)) (main : ℕ) : Type 0 where
   pub few_functions : nat_le (length functions) 512 ≡ true
-  pub few_words : nat_le (words_of words_of_global globals) 65536 ≡ true
+  pub few_words : nat_le (words_of words_of_global globals) MAX_DATA_WORDS ≡ true
   pub functions_fit : list_all (check.function_fits globals functions texts) functions ≡ true
   pub short_texts : list_all (λ t. nat_le (length t) 509) texts ≡ true
   pub main_fit : main_fits globals functions texts (slice_get functions main) ≡ true
@@ -64,7 +65,7 @@ module _ (globals : List Global) (functions : List Function) (texts : List (List
   program_facts main h =
       let many = nat_le (length functions) 512 in
       let names = nat_le (length globals) 1024 in
-      let words = nat_le (words_of words_of_global globals) 65536 in
+      let words = nat_le (words_of words_of_global globals) MAX_DATA_WORDS in
       let sized = list_all global_fits globals in
       let fit = list_all (check.function_fits globals functions texts) functions in
       let short = list_all (λ t. nat_le (length t) 509) texts in

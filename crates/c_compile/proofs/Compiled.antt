@@ -5,6 +5,7 @@ use Rattle.std.specs.List.{list_all}
 use Rattle.std.proofs.lemmas.Bool.{leb-true}
 use Rattle.std.proofs.lemmas.List.{append-nil}
 use Rattle.std.proofs.lemmas.List.Folds.{list_all-append}
+use Rattle.nm_base.specs.declared.limits.TheConstants.{MAX_DATA_WORDS}
 use Rattle.c_tree.specs.declared.program.Global.{Global}
 use Rattle.c_tree.specs.declared.program.Function.{Function}
 use Rattle.c_tree.specs.Checks as check
@@ -17,7 +18,7 @@ use Rattle.stack_code.specs.Code.{FunctionCode, Code}
 use Rattle.stack_code.specs.Blocks.{function_of, is_kept, view_of}
 use Rattle.c_compile.specs.Variables.{globals_from}
 use Rattle.c_compile.specs.StmtCode.{function_code, program_code}
-use Rattle.c_compile.specs.Correct.{StandsFor}
+use Rattle.c_compile.specs.Correct.{CodeStandsFor}
 use Rattle.c_compile.proofs.Parts.{both_true}
 use Rattle.c_compile.proofs.CheckFacts.{program_facts, function_facts}
 use Rattle.c_compile.proofs.Checked.{checked_stands}
@@ -46,7 +47,7 @@ frame_fits globals functions texts main i f ok lt is =
 
 pub globals_fit : (globals : List Global) (functions : List Function) (texts : List (List ℕ)) (main : ℕ) → is_checked globals functions texts main ≡ true → words_of words_of_global globals < 2 ^ 32
 globals_fit globals functions texts main ok =
-    let bound = leb-true (words_of words_of_global globals) 65536 (program_facts globals functions texts main ok).few_words in
+    let bound = leb-true (words_of words_of_global globals) MAX_DATA_WORDS (program_facts globals functions texts main ok).few_words in
     omega (arith, bound)
 
 map_both : {A B : Type 0} (f : A → B) (xs ys : List A) → map f (xs ++ ys) ≡ map f xs ++ map f ys
@@ -82,6 +83,6 @@ view_is globals functions texts main made copies words variables e1 e2 e3 e4 =
     ap (λ x. F x copies words variables) e1 ∙ ap (λ x. F all x words variables) e2 ∙ ap (λ x. F all texts x variables) e3 ∙ ap (λ x. F all texts (first_words globals) x) e4
 
 pub stands_by : (globals : List Global) (functions : List Function) (texts : List (List ℕ)) (main : ℕ) (code : Code) → is_checked globals functions texts main ≡ true
-    → code ≡ program_code globals functions texts main → (count me : ℕ) → StandsFor (record { globals = globals; functions = functions; main = main; texts = texts; count = count; me = me }) code
+    → code ≡ program_code globals functions texts main → (count me : ℕ) → CodeStandsFor (record { globals = globals; functions = functions; main = main; texts = texts; count = count; me = me }) code
 stands_by globals functions texts main code ok same count me =
-    subst (StandsFor (record { globals = globals; functions = functions; main = main; texts = texts; count = count; me = me })) (sym same) (checked_stands globals functions texts main count me ok)
+    subst (CodeStandsFor (record { globals = globals; functions = functions; main = main; texts = texts; count = count; me = me })) (sym same) (checked_stands globals functions texts main count me ok)

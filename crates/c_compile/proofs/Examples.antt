@@ -8,7 +8,7 @@ use Rattle.c_tree.specs.declared.program.Function.{Function}
 use Rattle.c_tree.specs.Checks.{is_checked}
 use Rattle.stack_code.specs.Code.{steps_of}
 use Rattle.c_compile.specs.StmtCode.{program_code}
-use Rattle.c_compile.specs.Example.{the_global, the_main, instrs}
+use Rattle.c_compile.specs.private.Example.{the_global, the_main, instrs}
 
 abbrev lists : List (List (List ℕ))
 lists = replicate 1 [] ++ replicate 18 ((0 ∷ []) ∷ []) ++ replicate 23 ([] ∷ (0 ∷ []) ∷ []) ++ replicate 7 ((0 ∷ []) ∷ [])

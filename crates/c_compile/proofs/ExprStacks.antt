@@ -23,7 +23,7 @@ use Rattle.c_tree.specs.declared.program.PKind.TheOpen.{PKind-F, PExpr-F}
 use Rattle.c_tree.specs.declared.program.PKind.TheFolds.{ind-PKind, map-PKind}
 use Rattle.c_tree.specs.Storage.{words_of_global, words_of_slot, words_before}
 use Rattle.c_tree.specs.Typing as typing
-use Rattle.c_tree.specs.Typing.{Sort, Void, Array, Text, Wrong, Names, agreed, is_typed, is_value, is_effect, with_type, with_place, where_true, element_of, const_of, comma_of, result_of}
+use Rattle.c_tree.specs.Typing.{Sort, Void, Array, Text, Wrong, Declarations, agreed, is_typed, is_value, is_effect, with_type, with_place, where_true, element_of, const_of, comma_of, result_of}
 use Rattle.c_tree.specs.Typing.{sort_of_global, sort_of_slot, sort_of_target, sort_of_call, call_of_function, fit_params, fits_param, all_values, fits_format, fits_printf, fits_built_in}
 use Rattle.c_tree.specs.Typing.{is_count, conversions_from, same_type, sort_step, sort_of}
 use Rattle.stack_code.specs.declared.instr.Instr.{Instr}
@@ -50,7 +50,7 @@ param_operands [] = []
 param_operands (x ∷ xs) = passed x.array_param (param_operands xs)
 
 -- the code names the variables of a program, its functions and its texts
-pub record Knows (code : Code) (f : FunctionCode) (names : Names) : Type 0 where
+pub record Knows (code : Code) (f : FunctionCode) (names : Declarations) : Type 0 where
   pub texts : code.texts ≡ names.texts
   pub scalar_global : (i : ℕ) (g : Global) → slice_get names.globals i ≡ Some g → g.length ≡ None → list_any (is_scalar_at (words_before words_of_global names.globals i)) code.variables ≡ true
   pub array_global : (i n : ℕ) (g : Global) → slice_get names.globals i ≡ Some g → g.length ≡ Some n → list_any (is_array_at (words_before words_of_global names.globals i) n) code.variables ≡ true
@@ -350,7 +350,7 @@ module _ (code : Code) (f : FunctionCode) where
   printf_stacks texts is (Array of ∷ ss) (e ∷ es) r h = cc
   printf_stacks texts is (Wrong ∷ ss) (e ∷ es) r h = cc
 
-module _ (code : Code) (f : FunctionCode) (names : Names) (knows : Knows code f names) where
+module _ (code : Code) (f : FunctionCode) (names : Declarations) (knows : Knows code f names) where
   abbrev sh : Shape
   sh = record { globals = names.globals; functions = names.functions; texts = names.texts; slots = names.slots }
 

@@ -23,9 +23,9 @@ use Rattle.c_compile.specs.ExprCode.{Shape}
 use Rattle.c_compile.specs.Variables.{slots_from}
 use Rattle.c_compile.specs.StmtCode as spec
 use Rattle.c_compile.specs.StmtCode.{Blocks, Exits, StmtCode, ArmCode, stmt_code, arm_code, put, body_code, shape, function_code}
-use Rattle.c_compile.specs.Emitted.{after, code_of_stmt, code_of_inside, body_of_stmt, inside_of_stmt, end_of_stmt}
+use Rattle.c_compile.specs.private.Emitted.{after, code_of_stmt, code_of_inside, body_of_stmt, inside_of_stmt, end_of_stmt}
 use Rattle.c_compile.specs.declared.body.Body.{Body}
-use Rattle.c_compile.specs.Body.{steps_of, blocks_of, IsLaidOut, Wrote, Opened}
+use Rattle.c_compile.specs.private.Body.{steps_of, blocks_of, IsLaidOut, Wrote, Opened}
 use Rattle.c_compile.proofs.Emit.{seq}
 use Rattle.c_compile.proofs.ByStmt.{stmt_is}
 use Rattle.c_compile.proofs.Levels.{stmt_code_roll}

@@ -3,6 +3,7 @@ use Rattle.std.proofs.Common.{◌≡◌, ℕ, zero, suc, ◌+◌, ◌*◌, ◌�
 use Rattle.std.specs.Prelude.{◌&&◌, ◌||◌, ◌==◌, not, nat_lt, nat_le, replicate, slice_get, is_none, unwrap_or}
 use Rattle.std.specs.List.{list_all, list_any}
 use Rattle.std.proofs.lemmas.Bool.{eq-eqb, leb-true, le-leb}
+use Rattle.nm_base.specs.declared.limits.TheConstants.{MAX_DATA_WORDS}
 use Rattle.c_tree.specs.declared.program.Global.{Global}
 use Rattle.c_tree.specs.declared.program.Slot.{Slot}
 use Rattle.c_tree.specs.declared.program.Function.{Function}
@@ -204,7 +205,7 @@ module _ (globals : List Global) (functions : List Function) (texts : List (List
       let facts = program_facts globals functions texts main h in
       let words = first_length globals in
       let many = subst (λ n. nat_le n 512 ≡ true) (sym (map_length functions)) facts.few_functions in
-      let few = subst (λ n. nat_le n 65536 ≡ true) (sym words) facts.few_words in
+      let few = subst (λ n. nat_le n MAX_DATA_WORDS ≡ true) (sym words) facts.few_words in
       let sum : length (first_words globals) ≡ words_of_all (globals_from 0 globals) = words ∙ sym (globals_words globals 0) in
       let h3 = and_true _ _ (and_true _ _ many (main_is functions main facts.main_fit)) facts.short_texts in
       let h5 = and_true _ _ (and_true _ _ h3 few) (globals_laid globals 0) in
@@ -216,9 +217,9 @@ both_words : (ps ls : List Slot) → words_of words_of_slot (ps ++ ls) ≡ words
 both_words [] ls = omega arith
 both_words (p ∷ ps) ls = omega (arith, both_words ps ls)
 
-length_words : (o : Option ℕ) → is_size o ≡ true → unwrap_or o 1 ≤ 65536
+length_words : (o : Option ℕ) → is_size o ≡ true → unwrap_or o 1 ≤ MAX_DATA_WORDS
 length_words None h = omega arith
-length_words (Some n) h = leb-true n 65536 (both_true (nat_lt 0 n) (nat_le n 65536) h).1
+length_words (Some n) h = leb-true n MAX_DATA_WORDS (both_true (nat_lt 0 n) (nat_le n MAX_DATA_WORDS) h).1
 
 param_words : (ps : List Slot) → list_all param_fits ps ≡ true → words_of words_of_slot ps ≤ 2 * length ps
 param_words [] h = omega arith
@@ -232,7 +233,7 @@ param_words (p ∷ ps) h =
     one false None e = omega arith
     one false (Some n) e = cc
 
-local_words : (ls : List Slot) → list_all local_fits ls ≡ true → words_of words_of_slot ls ≤ 65536 * length ls
+local_words : (ls : List Slot) → list_all local_fits ls ≡ true → words_of words_of_slot ls ≤ MAX_DATA_WORDS * length ls
 local_words [] h = omega arith
 local_words (x ∷ ls) h =
     let b = both_true (local_fits x) (list_all local_fits ls) h in
@@ -240,7 +241,7 @@ local_words (x ∷ ls) h =
     let sized = (both_true (is_name x.name) (is_size x.length) one.0).1 in
     omega (arith, local x.array_param x.length one.1 sized, local_words ls b.1)
   where
-    local : (array : Bool) (o : Option ℕ) → not array ≡ true → is_size o ≡ true → words_of_slot (record x { array_param = array; length = o }) ≤ 65536
+    local : (array : Bool) (o : Option ℕ) → not array ≡ true → is_size o ≡ true → words_of_slot (record x { array_param = array; length = o }) ≤ MAX_DATA_WORDS
     local true o e h = cc
     local false o e h = length_words o h
 

@@ -7,10 +7,10 @@ use Rattle.std.proofs.lemmas.Grind.{merely}
 use Rattle.c_tree.specs.declared.program.Global.{Global}
 use Rattle.c_tree.specs.declared.program.Slot.{Slot}
 use Rattle.c_tree.specs.declared.program.Function.{Function}
-use Rattle.c_tree.specs.Typing.{Names}
+use Rattle.c_tree.specs.Typing.{Declarations}
 use Rattle.c_tree.specs.Checks as check
 use Rattle.c_tree.specs.Checks.{local_fits, in_order, is_block_slot, blocks_fit, check_of, names_of, is_checked}
-use Rattle.c_tree.specs.Play.{Setting}
+use Rattle.c_tree.specs.Play.{PlaySetting}
 use Rattle.stack_code.specs.Code.{FunctionCode, Code}
 use Rattle.stack_code.specs.Valid.{finds, FindsOperands, operands_of, operands_by, is_within, IsSound}
 use Rattle.c_compile.specs.StmtCode.{stmt_code, program_code, program_fits}
@@ -61,7 +61,7 @@ module _ (ps ls : List Slot) (fit : list_all local_fits ls ≡ true) where
       and_true _ _ (block_local b from block le h1.0 h1.1) (blocks_local bs (from + length b) (block + 1) (omega (arith, le)) h2.1)
 
 module _ (globals : List Global) (functions : List Function) (texts : List (List ℕ)) (main : ℕ) (ok : is_checked globals functions texts main ≡ true) where
-  abbrev set : Setting
+  abbrev set : PlaySetting
   set = record { globals = globals; functions = functions; main = main; texts = texts; count = 1; me = 0 }
 
   abbrev code : Code
@@ -70,7 +70,7 @@ module _ (globals : List Global) (functions : List Function) (texts : List (List
   abbrev compiled : Function → FunctionCode
   compiled fn = programs.compiled set fn
 
-  abbrev names : Function → Names
+  abbrev names : Function → Declarations
   names fn = names_of globals functions texts fn
 
   facts : ProgramFacts globals functions texts main

@@ -20,7 +20,7 @@ use Rattle.c_tree.specs.declared.program.PKind.{PKind, roll-PKind}
 use Rattle.c_tree.specs.declared.program.PKind.TheOpen.{PKind-F, PExpr-F}
 use Rattle.c_tree.specs.declared.program.PKind.TheFolds.{ind-PKind, map-PKind}
 use Rattle.c_tree.specs.Storage.{words_of_slot, words_of}
-use Rattle.c_tree.specs.Typing.{Sort, Value, Void, Array, Text, Wrong, Names, agreed, is_typed, is_value, is_effect, with_type, with_place, where_true, element_of, const_of, comma_of, result_of}
+use Rattle.c_tree.specs.Typing.{Sort, Value, Void, Array, Text, Wrong, Declarations, agreed, is_typed, is_value, is_effect, with_type, with_place, where_true, element_of, const_of, comma_of, result_of}
 use Rattle.c_tree.specs.Typing.{sort_of_global, sort_of_slot, sort_of_target, sort_of_call, call_of_function, fit_params, fits_param, all_values, fits_format, fits_printf, fits_built_in}
 use Rattle.c_tree.specs.Typing.{is_count, conversions_from, same_type, sort_step, sort_of}
 use Rattle.c_tree.specs.Checks.{param_fits}
@@ -183,7 +183,7 @@ params_fit (s ∷ ss) (e ∷ es) (x ∷ xs) r h p =
     let more = params_fit ss es xs r.1 b.1 q.1 in
     (and_true e.part.fits (all_fit es) one.0 more.0, omega (arith, one.1, more.1))
 
-module _ (names : Names) (params : (g : ℕ) (fn : Function) → slice_get names.functions g ≡ Some fn → list_all param_fits fn.params ≡ true) where
+module _ (names : Declarations) (params : (g : ℕ) (fn : Function) → slice_get names.functions g ≡ Some fn → list_all param_fits fn.params ≡ true) where
   abbrev sh : Shape
   sh = record { globals = names.globals; functions = names.functions; texts = names.texts; slots = names.slots }
 

@@ -11,7 +11,7 @@ use Rattle.c_tree.specs.declared.program.PLabel.{PLabel}
 use Rattle.c_tree.specs.declared.program.PExpr.{PExpr}
 use Rattle.c_tree.specs.Storage.{words_of_slot, words_before}
 use Rattle.c_tree.specs.Stmt.{is_default}
-use Rattle.c_tree.specs.Typing.{Names, sort_of}
+use Rattle.c_tree.specs.Typing.{Declarations, sort_of}
 use Rattle.c_tree.specs.Checks.{value_fits, effect_fits, test_fits, start_fits, return_fits, is_scalar}
 use Rattle.stack_code.specs.declared.instr.Instr.{Instr}
 use Rattle.stack_code.specs.declared.instr.Instr.TheVariants as instr
@@ -31,7 +31,7 @@ use Rattle.c_compile.proofs.Finds.{Finds}
 use Rattle.c_compile.proofs.ExprStacks as exprs
 use Rattle.c_compile.proofs.ExprStacks.{Knows}
 
-module _ (code : Code) (f : FunctionCode) (names : Names) (knows : Knows code f names) (result : Option Ctype) where
+module _ (code : Code) (f : FunctionCode) (names : Declarations) (knows : Knows code f names) (result : Option Ctype) where
   abbrev pub sh : Shape
   sh = record { globals = names.globals; functions = names.functions; texts = names.texts; slots = names.slots }
 

@@ -7,7 +7,7 @@ use Rattle.c_tree.specs.declared.program.PArm.{PArm, roll-PArm}
 use Rattle.c_tree.specs.declared.program.PStmt.{PStmt, roll-PStmt}
 use Rattle.c_tree.specs.declared.program.PStmt.TheOpen.{PStmt-F, PArm-F}
 use Rattle.c_tree.specs.declared.program.PStmt.TheFolds.{ind-PStmt, map-PStmt, map-PArm}
-use Rattle.c_tree.specs.Typing.{Names}
+use Rattle.c_tree.specs.Typing.{Declarations}
 use Rattle.c_tree.specs.Checks.{Around, StmtCheck, ArmCheck, all_fine, arms_fine, blocks_of, blocks_of_arms, check_step, check_of, in_loop, in_switch}
 use Rattle.stack_code.specs.Code.{Placed, FunctionCode, Code}
 use Rattle.c_compile.specs.Asm.{end_of}
@@ -23,7 +23,7 @@ use Rattle.c_compile.proofs.StmtStacks.{Passes, StmtPasses, AllPass, AllArms, is
 both_lists : {X : Type 0} (p : X → Bool) (xs ys : List X) → list_all p (xs ++ ys) ≡ true → (list_all p xs ≡ true) × (list_all p ys ≡ true)
 both_lists p xs ys h = both_true (list_all p xs) (list_all p ys) (sym (list_all-append p xs ys) ∙ h)
 
-module _ (code : Code) (f : FunctionCode) (names : Names) (knows : Knows code f names) (result : Option Ctype) where
+module _ (code : Code) (f : FunctionCode) (names : Declarations) (knows : Knows code f names) (result : Option Ctype) where
   abbrev sh : Shape
   sh = stacks.sh code f names knows result
 

@@ -16,9 +16,9 @@ use Rattle.stack_code.specs.declared.instr.Instr.TheVariants as instr
 use Rattle.c_compile.specs.Asm.{Laid, nothing, ◌⨾◌}
 use Rattle.c_compile.specs.ExprCode.{Shape}
 use Rattle.c_compile.specs.StmtCode.{Blocks, put, effect_code, test_code, returned, zero_by, start_by, case_code, arm_code, place_of_label}
-use Rattle.c_compile.specs.Emitted.{value_of, code_of_value, code_of_zeros, code_of_starts, code_of_labels, code_of_cases, end_of_list, default_place_of}
+use Rattle.c_compile.specs.private.Emitted.{value_of, code_of_value, code_of_zeros, code_of_starts, code_of_labels, code_of_cases, end_of_list, default_place_of}
 use Rattle.c_compile.specs.declared.body.Body.{Body}
-use Rattle.c_compile.specs.Body.{steps_of, blocks_of, IsLaidOut, Wrote}
+use Rattle.c_compile.specs.private.Body.{steps_of, blocks_of, IsLaidOut, Wrote}
 use Rattle.c_compile.proofs.Bodies.{wrote_nothing, wrote_both, wrote_as, Onward, onward_more, onward_end}
 
 -- what a call wrote, under another name of the same code

@@ -10,10 +10,10 @@ use Rattle.stack_code.specs.declared.instr.Instr.TheVariants as instr
 use Rattle.c_compile.specs.Asm.{Laid, nothing, ◌⨾◌}
 use Rattle.c_compile.specs.ExprCode.{Shape}
 use Rattle.c_compile.specs.StmtCode.{Blocks, Exits, stmt_code, put, effect_code, effect_ends, test_code, returned, if_code, while_code, do_code, for_code}
-use Rattle.c_compile.specs.Emitted.{value_of, code_of_value, code_of_zeros, code_of_starts, code_of_stmt, code_of_list, code_of_arms, code_of_cases, code_of_inside, code_of_switch, end_of_value}
-use Rattle.c_compile.specs.Emitted.{end_of_stmt, end_of_arms, end_of_cases, default_place_of}
+use Rattle.c_compile.specs.private.Emitted.{value_of, code_of_value, code_of_zeros, code_of_starts, code_of_stmt, code_of_list, code_of_arms, code_of_cases, code_of_inside, code_of_switch, end_of_value}
+use Rattle.c_compile.specs.private.Emitted.{end_of_stmt, end_of_arms, end_of_cases, default_place_of}
 use Rattle.c_compile.specs.declared.body.Body.{Body}
-use Rattle.c_compile.specs.Body.{steps_of, blocks_of, Wrote}
+use Rattle.c_compile.specs.private.Body.{steps_of, blocks_of, Wrote}
 use Rattle.c_compile.proofs.Bodies.{wrote_nothing, wrote_both, wrote_as, Onward, onward_more}
 use Rattle.c_compile.proofs.ByStmt.{stmt_is}
 use Rattle.c_compile.proofs.Writing.{drops}

@@ -3,8 +3,6 @@ pub mod Variables
 pub mod ExprCode
 pub mod StmtCode
 pub mod Correct
-pub mod Emitted
-pub mod Body
 pub mod Sound
-pub mod Told
-pub mod Example
+pub mod KeptNames
+pub mod private

@@ -1,4 +1,5 @@
--- The code of statements. A place after a part doesn't depend on where its breaks lead to, so it is known before the part is laid out.
+-- The code of statements. A place after a part doesn't depend on where its breaks lead to, so it is known before the
+-- part is laid out.
 use Rattle.std.specs.Prelude.{ℕ, ◌+◌, Bool, true, false, ◌&&◌, List, [], ◌∷◌, map, length, Option, Some, None, slice_get}
 use Rattle.std.specs.List.{list_any}
 use Rattle.nm_base.specs.declared.operator.Ctype.TheVariants.{Int}
@@ -113,14 +114,16 @@ module _ (sh : Shape) where
 
   abbrev pub zeros : List Start → Blocks → Laid
   zeros [] blocks = nothing
-  zeros (x ∷ xs) blocks = zero_by (slice_get sh.slots x.slot) (words_before words_of_slot sh.slots x.slot) blocks ⨾ zeros xs blocks
+  zeros (x ∷ xs) blocks =
+      zero_by (slice_get sh.slots x.slot) (words_before words_of_slot sh.slots x.slot) blocks ⨾ zeros xs blocks
 
   abbrev pub start_by : ℕ → ℕ → Option PExpr → Blocks → Laid
   start_by slot line None blocks = nothing
   start_by slot line (Some e) blocks =
       put blocks (instr.Line line)
       ⨾ (value_code e blocks
-      ⨾ (put blocks (instr.LocalPlace (words_before words_of_slot sh.slots slot)) ⨾ (put blocks instr.Swap ⨾ (put blocks instr.Store ⨾ put blocks instr.Drop))))
+      ⨾ (put blocks (instr.LocalPlace (words_before words_of_slot sh.slots slot))
+      ⨾ (put blocks instr.Swap ⨾ (put blocks instr.Store ⨾ put blocks instr.Drop))))
 
   abbrev pub starts : List Start → Blocks → Laid
   starts [] blocks = nothing
@@ -187,7 +190,8 @@ module _ (sh : Shape) where
       ⨾ (effect_code third blocks ⨾ put blocks (instr.Jump top)))))))) p
 
   abbrev pub for_ends : Option PExpr → Option PExpr → Option PExpr → StmtCode → ℕ → ℕ
-  for_ends first test third body p = effect_ends third (body.ends (test_ends test (effect_ends first (p + 1) + 1 + 1))) + 1
+  for_ends first test third body p =
+      effect_ends third (body.ends (test_ends test (effect_ends first (p + 1) + 1 + 1))) + 1
 
   -- ---- switches
 
@@ -223,7 +227,8 @@ module _ (sh : Shape) where
   -- the place of the first arm with such a label, or the end
   abbrev pub place_of_label : (PLabel → Bool) → List ArmCode → ℕ → ℕ
   place_of_label test [] start = start
-  place_of_label test (arm ∷ arms) start = elim (list_any test arm.labels) [ true ↦ start | false ↦ place_of_label test arms (arm.ends start) ]
+  place_of_label test (arm ∷ arms) start =
+      elim (list_any test arm.labels) [ true ↦ start | false ↦ place_of_label test arms (arm.ends start) ]
 
   abbrev pub switch_code : PExpr → List ArmCode → ℕ → Exits → Blocks → Laid
   switch_code on arms line exits blocks p =
@@ -234,7 +239,8 @@ module _ (sh : Shape) where
       ⨾ (value_code on blocks
       ⨾ (arms_cases arms start blocks
       ⨾ (put blocks instr.Drop
-      ⨾ (put blocks (instr.Jump (place_of_label is_default arms start)) ⨾ arms_code arms (record { breaks = after; continues = exits.continues }) blocks))))) p
+      ⨾ (put blocks (instr.Jump (place_of_label is_default arms start))
+      ⨾ arms_code arms (record { breaks = after; continues = exits.continues }) blocks))))) p
 
   -- ---- all statements
 
@@ -275,7 +281,8 @@ module _ (sh : Shape) where
   stmt_step (PStmt-F.Break line) =
       plain (λ exits blocks. put blocks (instr.Line line) ⨾ put blocks (instr.Jump exits.breaks)) (λ p. p + 1 + 1) true
   stmt_step (PStmt-F.Continue line) =
-      plain (λ exits blocks. put blocks (instr.Line line) ⨾ put blocks (instr.Jump exits.continues)) (λ p. p + 1 + 1) true
+      plain (λ exits blocks. put blocks (instr.Line line) ⨾ put blocks (instr.Jump exits.continues))
+      (λ p. p + 1 + 1) true
   stmt_step (PStmt-F.Return value line) =
       plain
       (λ exits blocks. put blocks (instr.Line line) ⨾ (returned value blocks ⨾ put blocks instr.Return))
@@ -288,7 +295,12 @@ module _ (sh : Shape) where
       ((expr_code sh on).fits && arms_fit arms)
 
   abbrev pub arm_step : PArm-F StmtCode ArmCode → ArmCode
-  arm_step arm = record { labels = arm.labels; code = sequence_code arm.list; ends = sequence_ends arm.list; fits = all_fit arm.list }
+  arm_step arm = record {
+    labels = arm.labels;
+    code = sequence_code arm.list;
+    ends = sequence_ends arm.list;
+    fits = all_fit arm.list;
+  }
 
   abbrev pub stmt_code : PStmt → StmtCode
   stmt_code x = laid-PStmt (family StmtCode ArmCode) (steps StmtCode ArmCode stmt_step arm_step) x

@@ -9,7 +9,8 @@ abbrev pub variable_of_global : ℕ → Global → Variable
 variable_of_global place g = record { name = g.name; of = g.of; length = g.length; array_param = false; place = place }
 
 abbrev pub variable_of_slot : ℕ → Slot → Variable
-variable_of_slot place x = record { name = x.name; of = x.of; length = x.length; array_param = x.array_param; place = place }
+variable_of_slot place x =
+    record { name = x.name; of = x.of; length = x.length; array_param = x.array_param; place = place }
 
 -- globals, from a word on
 abbrev pub globals_from : ℕ → List Global → List Variable

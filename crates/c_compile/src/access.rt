@@ -4,7 +4,7 @@ ghost use Rattle.std.specs.Prelude.{◌≡◌, slice_get};
 ghost use Rattle.std.specs.Option.{option_copied};
 ghost use Rattle.c_tree.specs.Storage.{words_of_global, words_of_slot};
 ghost use Rattle.c_compile.specs.ExprCode as spec;
-ghost use Rattle.c_compile.specs.Emitted.{passed};
+ghost use Rattle.c_compile.specs.private.Emitted.{passed};
 
 use c_tree::{Global, Slot};
 use stack_code::{Instr, Variable};
@@ -61,7 +61,8 @@ pub fn at_slot(base: u32, slot: Option<&Slot>) -> Instr
 
 /// Pushes a global's place and length, where it is an array.
 pub fn global_array(base: u32, global: Option<&Global>) -> Option<Instr>
-    ensures { (sh : spec.Shape) → spec.global_argument sh base (option_copied global.entry) ≡ passed (Instr.GlobalPlace base) result }
+    ensures { (sh : spec.Shape) → spec.global_argument sh base (option_copied global.entry)
+        ≡ passed (Instr.GlobalPlace base) result }
 {
     match global {
         None => None,
@@ -74,7 +75,8 @@ pub fn global_array(base: u32, global: Option<&Global>) -> Option<Instr>
 
 /// Pushes a slot's place and length, where it is an array.
 pub fn slot_array(base: u32, slot: Option<&Slot>) -> Option<Instr>
-    ensures { (sh : spec.Shape) → spec.slot_argument sh base (option_copied slot.entry) ≡ passed (Instr.LocalPlace base) result }
+    ensures { (sh : spec.Shape) → spec.slot_argument sh base (option_copied slot.entry)
+        ≡ passed (Instr.LocalPlace base) result }
 {
     match slot {
         None => None,

@@ -7,8 +7,8 @@ ghost use Rattle.c_tree.specs.Expr.{slots_of};
 ghost use Rattle.c_tree.specs.Storage.{words_of, words_of_global, words_of_slot};
 ghost use Rattle.c_compile.specs.Variables.{globals_from};
 ghost use Rattle.c_compile.specs.StmtCode as spec;
-ghost use Rattle.c_compile.specs.Emitted.{after, shape_of, body_of_stmt, inside_of_stmt};
-ghost use Rattle.c_compile.specs.Body.{steps_of, blocks_of, IsLaidOut};
+ghost use Rattle.c_compile.specs.private.Emitted.{after, shape_of, body_of_stmt, inside_of_stmt};
+ghost use Rattle.c_compile.specs.private.Body.{steps_of, blocks_of, IsLaidOut};
 
 use crate::body::{Body, count_of};
 use crate::ends::stmt_end;
@@ -34,7 +34,9 @@ pub fn emit_function(
     requires frame { words_of words_of_slot (slots_of function.now) < 2 ^ 32 }
     requires globals { globals.now ≡ globals_from 0 program.now.globals }
     requires words { global_words ≡ words_of words_of_global program.now.globals }
-    ensures code { IfOk result (λ f. function_of f ≡ spec.function_code program.now.globals program.now.functions program.now.texts function.now) }
+    ensures code { IfOk result
+        (λ f. function_of f
+        ≡ spec.function_code program.now.globals program.now.functions program.now.texts function.now) }
     ensures kept { IfOk result (λ f. IsTrue (is_kept f)) }
 {
     let slots = slot_variables(alloc, function)?;
@@ -74,7 +76,9 @@ pub fn emit_function(
 
 fn emit_body(scope: &Scope) -> Result<Body, WantOfMemory>
     ensures fine { IfOk result (λ body. IsLaidOut body) }
-    ensures steps { IfOk result (λ body. steps_of body ≡ spec.body_code (shape_of scope.now) (spec.stmt_code (shape_of scope.now) scope.now.function.now.body) scope.now.function.now.line 0) }
+    ensures steps { IfOk result
+        (λ body. steps_of body ≡ spec.body_code (shape_of scope.now)
+        (spec.stmt_code (shape_of scope.now) scope.now.function.now.body) scope.now.function.now.line 0) }
 {
     let mut body = Body::new(scope.alloc);
     let function = scope.function;
@@ -99,7 +103,9 @@ fn emit_outermost(
 ) -> Result<(), WantOfMemory>
     requires { IsLaidOut body.old }
     ensures fine { OnOk result (IsLaidOut body.new) }
-    ensures steps { OnOk result (steps_of body.new ≡ after (steps_of body.old) (body_of_stmt (shape_of scope.now) s.now exits (blocks_of body.old))) }
+    ensures steps { OnOk result
+        (steps_of body.new ≡ after (steps_of body.old)
+        (body_of_stmt (shape_of scope.now) s.now exits (blocks_of body.old))) }
     ensures blocks { OnOk result (blocks_of body.new ≡ inside_of_stmt (shape_of scope.now) s.now (blocks_of body.old)) }
 {
     match s {

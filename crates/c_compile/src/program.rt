@@ -2,13 +2,13 @@
 
 ghost use Rattle.std.specs.Prelude.{◌≡◌, ℕ, IfOk, IsTrue, map};
 ghost use Rattle.std.specs.List.{list_all};
-ghost use Rattle.c_tree.specs.Play.{setting_of};
+ghost use Rattle.c_tree.specs.Play.{play_setting};
 ghost use Rattle.stack_code.specs.Blocks.{function_of, is_kept};
-ghost use Rattle.stack_code.specs.View.{code_of};
+ghost use Rattle.stack_code.specs.View.{seen_code};
 ghost use Rattle.c_compile.specs.Variables.{globals_from};
 ghost use Rattle.c_compile.specs.StmtCode.{function_code, program_code};
-ghost use Rattle.c_compile.specs.Correct.{StandsFor};
-ghost use Rattle.c_compile.specs.Told.{TellsNames};
+ghost use Rattle.c_compile.specs.Correct.{CodeStandsFor};
+ghost use Rattle.c_compile.specs.KeptNames.{KeepsNames};
 
 use crate::body::add;
 use crate::function::emit_function;
@@ -25,9 +25,11 @@ use std::alloc::Global;
 /// `WantOfMemory` also answers more than 4,294,967,295 instructions, or so many blocks in a function,
 /// which no text of 262,144 bytes has.
 pub fn compile(alloc: Global, p: &Program) -> Result<Code, WantOfMemory>
-    ensures code { IfOk result (λ code. code_of code ≡ program_code p.now.globals p.now.functions p.now.texts p.now.main) }
-    ensures stands { IfOk result (λ code. (count me : ℕ) → StandsFor (setting_of p.now count me) (code_of code)) }
-    ensures names { IfOk result (λ code. TellsNames p.now (code_of code)) }
+    ensures code { IfOk result
+        (λ code. seen_code code ≡ program_code p.now.globals p.now.functions p.now.texts p.now.main) }
+    ensures stands { IfOk result
+        (λ code. (count me : ℕ) → CodeStandsFor (play_setting p.now count me) (seen_code code)) }
+    ensures names { IfOk result (λ code. KeepsNames p.now (seen_code code)) }
 {
     let variables = global_variables(alloc, p.globals.as_slice())?;
     let functions = emit_functions(alloc, p, variables.as_slice())?;
@@ -44,7 +46,9 @@ pub fn emit_functions(
     variables: &[Variable],
 ) -> Result<Vec<CodeFunction>, WantOfMemory>
     requires { variables.now ≡ globals_from 0 p.now.globals }
-    ensures code { IfOk result (λ functions. map function_of functions.items ≡ map (function_code p.now.globals p.now.functions p.now.texts) p.now.functions) }
+    ensures code { IfOk result
+        (λ functions. map function_of functions.items
+        ≡ map (function_code p.now.globals p.now.functions p.now.texts) p.now.functions) }
     ensures kept { IfOk result (λ functions. IsTrue (list_all is_kept functions.items)) }
 {
     let global_words = words_of_globals(p.globals.as_slice());

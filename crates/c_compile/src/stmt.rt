@@ -4,8 +4,8 @@ ghost use Rattle.std.specs.Prelude.{◌≡◌, ◌∷◌, OnOk, IfOk, Some, None
 ghost use Rattle.c_compile.specs.Asm.{◌⨾◌};
 ghost use Rattle.c_compile.specs.StmtCode as spec;
 ghost use Rattle.c_compile.specs.StmtCode.{stmt_code};
-ghost use Rattle.c_compile.specs.Emitted.{shape_of, code_of_stmt, code_of_list, code_of_arms, code_of_inside, code_of_switch};
-ghost use Rattle.c_compile.specs.Body.{IsLaidOut, Wrote};
+ghost use Rattle.c_compile.specs.private.Emitted.{shape_of, code_of_stmt, code_of_list, code_of_arms, code_of_inside, code_of_switch};
+ghost use Rattle.c_compile.specs.private.Body.{IsLaidOut, Wrote};
 
 use crate::body::Body;
 use crate::ends::{
@@ -78,7 +78,10 @@ pub fn emit_stmt(
 /// An expression statement.
 fn emit_run(scope: &Scope, body: &mut Body, part: &PExpr, line: u32) -> Result<(), WantOfMemory>
     requires { IsLaidOut body.old }
-    ensures { OnOk result (Wrote body.old body.new (λ blocks. spec.put blocks (Instr.Line line) ⨾ spec.effect_code (shape_of scope.now) (Some part.now) blocks)) }
+    ensures { OnOk result
+        (Wrote body.old body.new
+        (λ blocks. spec.put blocks (Instr.Line line)
+        ⨾ spec.effect_code (shape_of scope.now) (Some part.now) blocks)) }
 {
     body.put(Instr::Line(line))?;
     body.put_value(scope, part)?;
@@ -89,7 +92,8 @@ fn emit_run(scope: &Scope, body: &mut Body, part: &PExpr, line: u32) -> Result<(
 /// A `break` or a `continue`.
 fn emit_jump(body: &mut Body, line: u32, target: u32) -> Result<(), WantOfMemory>
     requires { IsLaidOut body.old }
-    ensures { OnOk result (Wrote body.old body.new (λ blocks. spec.put blocks (Instr.Line line) ⨾ spec.put blocks (Instr.Jump target))) }
+    ensures { OnOk result
+        (Wrote body.old body.new (λ blocks. spec.put blocks (Instr.Line line) ⨾ spec.put blocks (Instr.Jump target))) }
 {
     body.put(Instr::Line(line))?;
     body.put(Instr::Jump(target))?;
@@ -103,7 +107,10 @@ fn emit_return(
     line: u32,
 ) -> Result<(), WantOfMemory>
     requires { IsLaidOut body.old }
-    ensures { OnOk result (Wrote body.old body.new (λ blocks. spec.put blocks (Instr.Line line) ⨾ (spec.returned (shape_of scope.now) value.now blocks ⨾ spec.put blocks Instr.Return))) }
+    ensures { OnOk result
+        (Wrote body.old body.new
+        (λ blocks. spec.put blocks (Instr.Line line)
+        ⨾ (spec.returned (shape_of scope.now) value.now blocks ⨾ spec.put blocks Instr.Return))) }
 {
     body.put(Instr::Line(line))?;
     put_returned(scope, body, value)?;
@@ -121,7 +128,10 @@ fn emit_block(
     exits: Exits,
 ) -> Result<(), WantOfMemory>
     requires { IsLaidOut body.old }
-    ensures { OnOk result (Wrote body.old body.new (λ blocks. code_of_inside (shape_of scope.now) locals.now list.now exits (map (λ x. x.slot) locals.now ∷ blocks))) }
+    ensures { OnOk result
+        (Wrote body.old body.new
+        (λ blocks. code_of_inside (shape_of scope.now) locals.now list.now exits
+        (map (λ x. x.slot) locals.now ∷ blocks))) }
 {
     let slots = slots_in(scope.alloc, locals)?;
     let outer = body.open(slots)?;
@@ -187,7 +197,8 @@ fn emit_if(
 ) -> Result<(), WantOfMemory>
     requires { IsLaidOut body.old }
     ensures { OnOk result (Wrote body.old body.new
-        (λ blocks. spec.put blocks (Instr.Line line) ⨾ spec.if_code (shape_of scope.now) test.now (stmt_code (shape_of scope.now) yes.now) None exits blocks)) }
+        (λ blocks. spec.put blocks (Instr.Line line)
+        ⨾ spec.if_code (shape_of scope.now) test.now (stmt_code (shape_of scope.now) yes.now) None exits blocks)) }
 {
     let place = body.place()?;
     let end = else_place(scope, test, yes, place)?;
@@ -211,7 +222,8 @@ fn emit_if_else(
 ) -> Result<(), WantOfMemory>
     requires { IsLaidOut body.old }
     ensures { OnOk result (Wrote body.old body.new
-        (λ blocks. spec.put blocks (Instr.Line line) ⨾ spec.if_code (shape_of scope.now) test.now (stmt_code (shape_of scope.now) yes.now)
+        (λ blocks. spec.put blocks (Instr.Line line)
+        ⨾ spec.if_code (shape_of scope.now) test.now (stmt_code (shape_of scope.now) yes.now)
         (Some (stmt_code (shape_of scope.now) no.now)) exits blocks)) }
 {
     let place = body.place()?;
@@ -235,7 +247,10 @@ fn emit_while(
     line: u32,
 ) -> Result<(), WantOfMemory>
     requires { IsLaidOut body.old }
-    ensures { OnOk result (Wrote body.old body.new (λ blocks. spec.while_code (shape_of scope.now) test.now (stmt_code (shape_of scope.now) inner.now) line blocks)) }
+    ensures { OnOk result
+        (Wrote body.old body.new
+        (λ blocks. spec.while_code (shape_of scope.now) test.now
+        (stmt_code (shape_of scope.now) inner.now) line blocks)) }
 {
     let start = body.place()?;
     let back = while_back(scope, test, inner, start)?;
@@ -261,7 +276,10 @@ fn emit_do(
     line: u32,
 ) -> Result<(), WantOfMemory>
     requires { IsLaidOut body.old }
-    ensures { OnOk result (Wrote body.old body.new (λ blocks. spec.do_code (shape_of scope.now) (stmt_code (shape_of scope.now) inner.now) test.now line blocks)) }
+    ensures { OnOk result
+        (Wrote body.old body.new
+        (λ blocks. spec.do_code (shape_of scope.now)
+        (stmt_code (shape_of scope.now) inner.now) test.now line blocks)) }
 {
     let start = body.place()?;
     let first = next(start)?;
@@ -292,7 +310,10 @@ fn emit_for(
     line: u32,
 ) -> Result<(), WantOfMemory>
     requires { IsLaidOut body.old }
-    ensures { OnOk result (Wrote body.old body.new (λ blocks. spec.for_code (shape_of scope.now) first.now test.now third.now (stmt_code (shape_of scope.now) inner.now) line blocks)) }
+    ensures { OnOk result
+        (Wrote body.old body.new
+        (λ blocks. spec.for_code (shape_of scope.now) first.now test.now third.now
+        (stmt_code (shape_of scope.now) inner.now) line blocks)) }
 {
     let start = body.place()?;
     let top = for_top(scope, first, start)?;

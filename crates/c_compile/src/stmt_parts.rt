@@ -6,8 +6,8 @@ ghost use Rattle.c_tree.specs.Storage.{words_before, words_of_slot};
 ghost use Rattle.c_tree.specs.Stmt.{is_default};
 ghost use Rattle.c_compile.specs.ExprCode.{Shape};
 ghost use Rattle.c_compile.specs.StmtCode as spec;
-ghost use Rattle.c_compile.specs.Emitted.{shape_of, code_of_zeros, code_of_starts, code_of_labels, code_of_cases, default_place_of};
-ghost use Rattle.c_compile.specs.Body.{IsLaidOut, Wrote};
+ghost use Rattle.c_compile.specs.private.Emitted.{shape_of, code_of_zeros, code_of_starts, code_of_labels, code_of_cases, default_place_of};
+ghost use Rattle.c_compile.specs.private.Body.{IsLaidOut, Wrote};
 
 use crate::access::slot_words;
 use crate::body::Body;
@@ -77,7 +77,8 @@ pub fn put_zeros(scope: &Scope, body: &mut Body, locals: &[Start]) -> Result<(),
 fn put_zero(scope: &Scope, body: &mut Body, slot: u32) -> Result<(), WantOfMemory>
     requires { IsLaidOut body.old }
     ensures { OnOk result (Wrote body.old body.new
-        (λ blocks. spec.zero_by (shape_of scope.now) (slice_get (shape_of scope.now).slots slot) (words_before words_of_slot (shape_of scope.now).slots slot) blocks)) }
+        (λ blocks. spec.zero_by (shape_of scope.now) (slice_get (shape_of scope.now).slots slot)
+        (words_before words_of_slot (shape_of scope.now).slots slot) blocks)) }
 {
     match scope.slot(slot) {
         None => Ok(()),
@@ -103,7 +104,9 @@ pub fn put_starts(scope: &Scope, body: &mut Body, locals: &[Start]) -> Result<()
 
 fn put_start(scope: &Scope, body: &mut Body, local: &Start) -> Result<(), WantOfMemory>
     requires { IsLaidOut body.old }
-    ensures { OnOk result (Wrote body.old body.new (λ blocks. spec.start_by (shape_of scope.now) local.now.slot local.now.line local.now.value blocks)) }
+    ensures { OnOk result
+        (Wrote body.old body.new
+        (λ blocks. spec.start_by (shape_of scope.now) local.now.slot local.now.line local.now.value blocks)) }
 {
     match &local.value {
         None => Ok(()),

@@ -1,7 +1,7 @@
 //! A program is compiled, and its code is compared with a list that was written by hand from the rules.
 
 ghost use Rattle.std.specs.Prelude.{◌≡◌, [], ◌∷◌, IfOk};
-ghost use Rattle.c_compile.specs.Example as example;
+ghost use Rattle.c_compile.specs.private.Example as example;
 
 use crate::body::add;
 use crate::program::{compile, emit_functions};

@@ -18,7 +18,7 @@ use Rattle.c_lexer.specs.Constants.{digits_at, escape_at}
 use Rattle.c_lexer.specs.Lexemes.{or_fault, gap, comment_end, comment_at, is_line_start, is_include, hash_at, name_at, number_at, closing_at, key_in, word_with, character_byte_at, character_at}
 use Rattle.c_lexer.specs.Lexemes.{text_bytes_at, text_at, mark_in, mark_at, piece_at}
 use Rattle.c_lexer.specs.Tables.{marks, keywords}
-use Rattle.c_lexer.specs.Spelling.{Gives}
+use Rattle.c_lexer.specs.Spelling.{LexGives}
 use Rattle.std.specs.Prelude.{IfOk}
 use Rattle.c_lexer.specs.Laws.{IsText, closed, plain, escaped}
 use Rattle.c_lexer.proofs.Fronts.{front_begins}
@@ -176,7 +176,7 @@ piece_fits line before (b ∷ rest) p e =
     ]
 
 -- what stands at a place ends within the text
-pub piece_within : (line at : ℕ) (text : List ℕ) (r : Result Piece LexFault) → at < length text → Gives (λ p. p) r (piece_at line (take at text) (drop at text))
+pub piece_within : (line at : ℕ) (text : List ℕ) (r : Result Piece LexFault) → at < length text → LexGives (λ p. p) r (piece_at line (take at text) (drop at text))
     → IfOk r (λ p. (0 < p.width) × (at + p.width ≤ length text))
 piece_within line at text (Ok p) lt given = let h = piece_fits line (take at text) (drop at text) p given in (h.0, omega (arith, h.1, length-drop at text))
 piece_within line at text (Err f) lt given = tt

@@ -42,7 +42,8 @@ number_of word =
 -- the escapes of one letter or mark, and their values: \n \t \v \b \r \f \a \\ \? \' \"
 unfoldable pub simple_escapes : List (ℕ × ℕ)
 simple_escapes =
-    (110, 10) ∷ (116, 9) ∷ (118, 11) ∷ (98, 8) ∷ (114, 13) ∷ (102, 12) ∷ (97, 7) ∷ (92, 92) ∷ (63, 63) ∷ (39, 39) ∷ (34, 34) ∷ []
+    (110, 10) ∷ (116, 9) ∷ (118, 11) ∷ (98, 8) ∷ (114, 13) ∷ (102, 12) ∷ (97, 7) ∷
+    (92, 92) ∷ (63, 63) ∷ (39, 39) ∷ (34, 34) ∷ []
 
 abbrev pub simple_escape : ℕ → Option ℕ
 simple_escape b = option_map (λ e. e.1) (find (λ e. e.0 == b) simple_escapes)

@@ -36,12 +36,15 @@ pub record IsPlain (b : ℕ) : Type 0 where
 -- a front of the given width of a list of bytes stands for these bytes, and ends with the closing quote
 pub data IsText : List ℕ → List ℕ → ℕ → Type 0 where
   closed : {rest : List ℕ} → IsText (34 ∷ rest) [] 1
-  plain : {b : ℕ} {rest bytes : List ℕ} {width : ℕ} → IsPlain b → IsText rest bytes width → IsText (b ∷ rest) (b ∷ bytes) (1 + width)
-  escaped : {v len : ℕ} {rest bytes : List ℕ} {width : ℕ} → escape_at rest ≡ Some (v, len) → 0 < v → IsText (drop len rest) bytes width
+  plain : {b : ℕ} {rest bytes : List ℕ} {width : ℕ} → IsPlain b → IsText rest bytes width
+      → IsText (b ∷ rest) (b ∷ bytes) (1 + width)
+  escaped : {v len : ℕ} {rest bytes : List ℕ} {width : ℕ} → escape_at rest ≡ Some (v, len) → 0 < v
+      → IsText (drop len rest) bytes width
       → IsText (92 ∷ rest) (v ∷ bytes) (1 + (len + width))
 
 abbrev pub TextLaw : Type 0
-TextLaw = (line : ℕ) (inside bytes : List ℕ) (width : ℕ) → (text_bytes_at line 0 inside ≡ Ok (bytes, width)) ↔ IsText inside bytes width
+TextLaw = (line : ℕ) (inside bytes : List ℕ) (width : ℕ)
+    → (text_bytes_at line 0 inside ≡ Ok (bytes, width)) ↔ IsText inside bytes width
 
 abbrev pub BeginsWith : List ℕ → List ℕ → Type 0
 BeginsWith text word = take (length word) text ≡ word
@@ -82,7 +85,8 @@ NumberLaw = (line : ℕ) (text : List ℕ) (p : Piece) → number_at line text �
 
 -- each text is spelled or refused
 abbrev pub EachHasReading : Type 0
-EachHasReading = (text : List ℕ) → ((tokens : List Token) × Spells text tokens) ⊎ ((broken : LexFault) × Refused text broken)
+EachHasReading =
+    (text : List ℕ) → ((tokens : List Token) × Spells text tokens) ⊎ ((broken : LexFault) × Refused text broken)
 
 -- no text is spelled twice, or refused twice, or both
 pub record OneReading (text : List ℕ) : Type 0 where

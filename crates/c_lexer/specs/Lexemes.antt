@@ -19,7 +19,7 @@ use Rattle.c_lexer.specs.Tables.{keywords, marks}
 use Rattle.c_lexer.specs.Constants.{number_of, escape_at}
 
 infixl 10 ◌>>=◌
-abbrev pub ◌>>=◌ : {A B : Type 0} → Result A LexFault → (A → Result B LexFault) → Result B LexFault
+abbrev pub ◌>>=◌ : {A B F : Type 0} → Result A F → (A → Result B F) → Result B F
 (Ok x) >>= f = f x
 (Err e) >>= f = Err e
 
@@ -37,7 +37,8 @@ lexeme width kind bytes = record { width = width; lexeme = Some (record { kind =
 -- how many bytes there are up to the first `*/` and with it
 unfoldable pub comment_end : List ℕ → Option ℕ
 comment_end [] = None
-comment_end (b ∷ rest) = if starts_with nat_eq (b ∷ rest) (codes "*/") then Some 2 else option_map (λ n. 1 + n) (comment_end rest)
+comment_end (b ∷ rest) =
+    if starts_with nat_eq (b ∷ rest) (codes "*/") then Some 2 else option_map (λ n. 1 + n) (comment_end rest)
 
 -- a comment, behind its `/*`
 abbrev pub comment_at : ℕ → List ℕ → Result Piece LexFault
@@ -124,7 +125,8 @@ then_bytes (Some v) width others = others >>= λ o. Ok (v ∷ o.0, 1 + o.1)
 unfoldable pub text_bytes_at : ℕ → ℕ → List ℕ → Result (List ℕ × ℕ) LexFault
 text_bytes_at line skip [] = Err (OpenText line)
 text_bytes_at line (suc skip) (b ∷ rest) = text_bytes_at line skip rest >>= λ o. Ok (o.0, 1 + o.1)
-text_bytes_at line zero (b ∷ rest) = text_byte_at line (b ∷ rest) >>= λ c. then_bytes c.0 c.1 (text_bytes_at line (c.1 - 1) rest)
+text_bytes_at line zero (b ∷ rest) =
+    text_byte_at line (b ∷ rest) >>= λ c. then_bytes c.0 c.1 (text_bytes_at line (c.1 - 1) rest)
 
 -- a text, behind its opening quote
 unfoldable pub text_at : ℕ → List ℕ → Result Piece LexFault
@@ -134,11 +136,13 @@ text_at line inside = do
 
 -- the first mark of a table that a text begins with, and how many bytes it has
 abbrev pub mark_in : List (List ℕ × Mark) → List ℕ → Option (Mark × ℕ)
-mark_in table text = option_map (λ (m : List ℕ × Mark). (m.1, length m.0)) (find (λ m. starts_with nat_eq text m.0) table)
+mark_in table text =
+    option_map (λ (m : List ℕ × Mark). (m.1, length m.0)) (find (λ m. starts_with nat_eq text m.0) table)
 
 -- the longest mark that a text begins with
 unfoldable pub mark_at : ℕ → List ℕ → Result Piece LexFault
-mark_at line text = or_fault (BadByte line) (option_map (λ (m : Mark × ℕ). lexeme m.1 (tok.Mark m.0) []) (mark_in marks text))
+mark_at line text =
+    or_fault (BadByte line) (option_map (λ (m : Mark × ℕ). lexeme m.1 (tok.Mark m.0) []) (mark_in marks text))
 
 unfoldable pub piece_at : ℕ → List ℕ → List ℕ → Result Piece LexFault
 piece_at line before [] = Err (BadByte line)

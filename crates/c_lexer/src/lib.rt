@@ -14,10 +14,8 @@ mod token;
 mod words;
 
 pub use fault::LexFault;
-pub use laws::{
-    comments_end_first, marks_are_longest, one_reading, texts_are_spelled, words_are_whole,
-};
-pub use lexer::{MAX_SOURCE_LEN, lex};
+pub use laws::{comment_law, mark_law, reading_law, text_law, word_law};
+pub use lexer::lex;
 pub use token::{Key, Mark, Tok, Token};
 
 #[cfg(test)]

@@ -1,5 +1,5 @@
 use super::*;
-use nm_base::Ctype;
+use nm_base::{Ctype, MAX_PROGRAM_BYTES};
 use std::test::Fail;
 
 /// Rows of a text, and its refusal.
@@ -60,12 +60,13 @@ fn refusals(rt: HostRuntime) {
         (b"#define a", LexFault::BadByte { line: 1 }),
     ];
     for (text, fault) in rows {
-        assert!(rt; text.len() <= MAX_SOURCE_LEN);
+        assert!(rt; text.len() <= MAX_PROGRAM_BYTES as usize);
         assert_eq!(rt; lex(rt.alloc(), text).err(), Some(fault), "{text:?}");
     }
 }
 
-/// A name of 64 bytes, and a text of 510: a byte behind the text's closing quote comes too late, one before it does not.
+/// A name of 64 bytes, and a text of 510: a byte behind the text's closing quote comes too late, one before it does
+/// not.
 #[test]
 fn too_long(rt: HostRuntime) -> Result<(), Fail> {
     let name = vec![in rt.alloc(); b'a'; 64]?;
@@ -111,7 +112,7 @@ fn largest(rt: HostRuntime) -> Result<(), Fail> {
         (b'\n', None),
         (b'a', Some(LexFault::LongName { line: 1 })),
     ] {
-        let text = vec![in rt.alloc(); byte; MAX_SOURCE_LEN]?;
+        let text = vec![in rt.alloc(); byte; MAX_PROGRAM_BYTES as usize]?;
         match lex(rt.alloc(), &text) {
             Ok(tokens) => assert!(rt; tokens.is_empty() && want.is_none(), "{byte}"),
             Err(fault) => assert_eq!(rt; Some(fault), want, "{byte}"),
@@ -123,8 +124,8 @@ fn largest(rt: HostRuntime) -> Result<(), Fail> {
 /// A text with each kind of lexeme.
 #[test]
 fn each_kind(rt: HostRuntime) -> Result<(), Fail> {
-    let text =
-        b" #include <stdio.h> /*\nint a_1; /* no\nlexeme */ a_1<<=0x1Fu+017-2147483648u;\n'\\n' '\\x41'\t\"%d\\n\\\"\" >= > =";
+    let text = b" #include <stdio.h> /*\nint a_1; /* no\nlexeme */ a_1<<=0x1Fu+017-2147483648u;
+'\\n' '\\x41'\t\"%d\\n\\\"\" >= > =";
     let int = Ctype::Int;
     let unsigned = Ctype::Unsigned;
     let rows: [(Tok, &[u8], u32, u32, u32); 16] = [

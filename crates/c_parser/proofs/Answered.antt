@@ -6,11 +6,11 @@ use Rattle.c_tree.specs.declared.tree.Tree.{Tree}
 use Rattle.c_parser.specs.Tokens.{nesting}
 use Rattle.c_parser.specs.Unit.{UnitOf, unit_height}
 use Rattle.c_parser.specs.Faults.{IsNoUnit}
-use Rattle.c_parser.specs.declared.fault.Refusal.{Refusal}
-use Rattle.c_parser.specs.declared.fault.Refusal.TheVariants.{Syntax, Deep}
-use Rattle.c_parser.specs.Reader.{Failure, Wrong, TooDeep, Fails}
-use Rattle.c_parser.specs.ReadStmt.{repeated}
-use Rattle.c_parser.specs.ReadUnit.{read_items}
+use Rattle.c_parser.specs.declared.fault.TokenFault.{TokenFault}
+use Rattle.c_parser.specs.declared.fault.TokenFault.TheVariants.{Syntax, Deep}
+use Rattle.c_parser.specs.private.Reader.{Failure, Wrong, TooDeep, Fails}
+use Rattle.c_parser.specs.private.ReadStmt.{repeated}
+use Rattle.c_parser.specs.private.ReadUnit.{read_items}
 use Rattle.c_parser.proofs.UnitSound.{unit_sound}
 use Rattle.c_parser.proofs.UnitFull.{unit_full}
 use Rattle.c_parser.proofs.StmtDeep.{unit_deeps}
@@ -41,8 +41,8 @@ wrong_some (t ∷ ts) e = omega arith
 pub deep_nests : (ts : List Token) → read_items ts ≡ Err TooDeep → 64 ≤ nesting ts
 deep_nests ts e = (unit_deeps ts).of e
 
-pub wrong_of : (f : Refusal) (left : ℕ) (r : Read) → f ≡ Syntax left → Fails f r → r ≡ Err Wrong
-wrong_of f left r e h = subst (λ (g : Refusal). Fails g r) e h
+pub wrong_of : (f : TokenFault) (left : ℕ) (r : Read) → f ≡ Syntax left → Fails f r → r ≡ Err Wrong
+wrong_of f left r e h = subst (λ (g : TokenFault). Fails g r) e h
 
-pub deep_of : (f : Refusal) (left : ℕ) (r : Read) → f ≡ Deep left → Fails f r → r ≡ Err TooDeep
-deep_of f left r e h = subst (λ (g : Refusal). Fails g r) e h
+pub deep_of : (f : TokenFault) (left : ℕ) (r : Read) → f ≡ Deep left → Fails f r → r ≡ Err TooDeep
+deep_of f left r e h = subst (λ (g : TokenFault). Fails g r) e h

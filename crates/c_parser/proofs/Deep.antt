@@ -9,20 +9,21 @@ use Rattle.c_lexer.specs.declared.token.Mark.{Mark}
 use Rattle.c_lexer.specs.declared.token.Mark.TheVariants as m
 use Rattle.c_tree.specs.declared.tree.Expr.{Expr}
 use denote.Bor.{Bor}
-use Rattle.c_parser.specs.declared.fault.Refusal.{Refusal}
-use Rattle.c_parser.specs.declared.fault.Refusal.TheVariants.{Syntax, Deep, Memory}
+use Rattle.c_parser.specs.declared.fault.TokenFault.{TokenFault}
+use Rattle.c_parser.specs.declared.fault.TokenFault.TheVariants.{Syntax, Deep, Memory}
 use Rattle.c_parser.specs.declared.expr.Operand.{Operand}
 use Rattle.nm_base.specs.declared.operator.BinaryOp.{BinaryOp}
 use Rattle.c_parser.specs.declared.operators.Prefix.{Prefix}
 use Rattle.c_parser.specs.Tokens.{nesting, is_nesting_mark, assign_mark, mark_level}
 use Rattle.c_parser.proofs.Follow.{assign_level}
-use Rattle.c_parser.specs.Operators.{suffix_of, prefix_of}
+use Rattle.c_parser.specs.private.Operators.{suffix_of, prefix_of}
 use Rattle.c_parser.specs.Walk.{is_text, mark}
 use Rattle.c_parser.specs.Expr.{part_of}
-use Rattle.c_parser.specs.Reader.{Gives, OnDeep, Failure, Wrong, TooDeep, Reader, ◌>>=◌, if_found, at_mark, expected, expect}
-use Rattle.c_parser.specs.ReadExpr as read
-use Rattle.c_parser.specs.ReadExpr.{is_separator, join_at, assignment_at, line_at, suffixes, suffixed, parenthesized, element, argument, arguments_from, call, named_by, primary_by, primary, postfix}
-use Rattle.c_parser.specs.ReadExpr.{unary, unary_of, joins, choice, choices, assignment, value_of, more, at_level, read_expr}
+use Rattle.c_lexer.specs.Lexemes.{◌>>=◌}
+use Rattle.c_parser.specs.private.Reader.{ParseGives, OnDeep, Failure, Wrong, TooDeep, Reader, if_found, at_mark, expected, expect}
+use Rattle.c_parser.specs.private.ReadExpr as read
+use Rattle.c_parser.specs.private.ReadExpr.{is_separator, join_at, assignment_at, line_at, suffixes, suffixed, parenthesized, element, argument, arguments_from, call, named_by, primary_by, primary, postfix}
+use Rattle.c_parser.specs.private.ReadExpr.{unary, unary_of, joins, choice, choices, assignment, value_of, more, at_level, read_expr}
 use Rattle.c_parser.proofs.Steps.{mark_takes, mark_is, at_mark_some}
 use Rattle.c_parser.proofs.Sound.{Sound, Lower, argument_sound, primary_sound, suffixed_sound, joined_sound, join_found, join_mark, at_level_sound, expr_sound, assignment_found}
 use Rattle.c_parser.proofs.Nesting.{costs_token, costs_any, costs_mark, join_nests, expr_nests, costs_expr}
@@ -272,7 +273,7 @@ expr_deeps zero level ts top = record { of = λ e. omega arith }
 expr_deeps (suc below) level ts top = level_deeps below (read_expr below) (λ n us h. expr_sound below n us h) (λ n us h. expr_deeps below n us h) level ts top
 
 -- the same, of what a function gives
-pub expr_deep : (limit level : ℕ) (ts : List Token) (r : Result (Operand × Bor (List Token)) Refusal) → level ≤ 14 → Gives (λ y. (y.0, y.1.now)) r (read_expr limit level ts)
+pub expr_deep : (limit level : ℕ) (ts : List Token) (r : Result (Operand × Bor (List Token)) TokenFault) → level ≤ 14 → ParseGives (λ y. (y.0, y.1.now)) r (read_expr limit level ts)
     → OnDeep r (limit ≤ nesting ts)
 expr_deep limit level ts (Ok y) top g = tt
 expr_deep limit level ts (Err (Syntax k)) top g = tt

@@ -1,7 +1,7 @@
 mod Examples
 pub mod Lists
 pub mod Loops
-pub mod Laws
+pub mod ExprForms
 pub mod Steps
 pub mod Holds
 pub mod Spells

@@ -4,10 +4,11 @@ use Rattle.std.specs.Prelude.{if◌then◌else◌}
 use Rattle.std.proofs.lemmas.List.{append-nil}
 use Rattle.c_lexer.specs.declared.token.Token.{Token}
 use Rattle.c_lexer.specs.declared.token.Mark.{Mark}
-use Rattle.c_parser.specs.declared.fault.Refusal.{Refusal}
-use Rattle.c_parser.specs.declared.fault.Refusal.TheVariants.{Syntax, Deep, Memory}
-use Rattle.c_parser.specs.Reader.{Failure, Wrong, Reader, Fails, ◌>>=◌, if_found, at_mark}
-use Rattle.c_parser.specs.ReadStmt.{consed, repeated, separated}
+use Rattle.c_parser.specs.declared.fault.TokenFault.{TokenFault}
+use Rattle.c_parser.specs.declared.fault.TokenFault.TheVariants.{Syntax, Deep, Memory}
+use Rattle.c_lexer.specs.Lexemes.{◌>>=◌}
+use Rattle.c_parser.specs.private.Reader.{Failure, Wrong, Reader, Fails, if_found, at_mark}
+use Rattle.c_parser.specs.private.ReadStmt.{consed, repeated, separated}
 
 abbrev pub Read : Type 0 → Type 0
 Read A = Result ((List A × ℕ) × List Token) Failure
@@ -28,7 +29,7 @@ module _ {A : Type 0} where
       ap (λ (n : ℕ). Ok ((before ++ x.0 ∷ y.0.0, n), y.1)) e ∙ ap (λ (l : List A). Ok ((l, max (max height x.1) y.0.1), y.1)) (sym (append_assoc before (x.0 ∷ []) y.0.0))
   front_consed before height x (Err f) = refl
 
-  front_fails : (f : Refusal) (before : List A) (height : ℕ) (r : Read A) → Fails f r → Fails f (with_front before height r)
+  front_fails : (f : TokenFault) (before : List A) (height : ℕ) (r : Read A) → Fails f r → Fails f (with_front before height r)
   front_fails (Syntax k) before height r e = ap (with_front before height) e
   front_fails (Deep k) before height r e = ap (with_front before height) e
   front_fails Memory before height r e = tt
@@ -38,12 +39,12 @@ module _ {A : Type 0} where
       let e : max height 0 ≡ height = omega arith in
       ap (λ (n : ℕ). Ok ((before ++ [], n), rest)) e ∙ ap (λ (l : List A). Ok ((l, height), rest)) (append-nil before)
 
-  fails_along : {B : Type 0} (f : Refusal) (r : Result B Failure) (g : B → Read A) → Fails f r → Fails f (r >>= g)
+  fails_along : {B : Type 0} (f : TokenFault) (r : Result B Failure) (g : B → Read A) → Fails f r → Fails f (r >>= g)
   fails_along (Syntax k) r g e = ap (λ q. q >>= g) e
   fails_along (Deep k) r g e = ap (λ q. q >>= g) e
   fails_along Memory r g e = tt
 
-  fails_as : (f : Refusal) (r s : Read A) → r ≡ s → Fails f r → Fails f s
+  fails_as : (f : TokenFault) (r s : Read A) → r ≡ s → Fails f r → Fails f s
   fails_as (Syntax k) r s e h = sym e ∙ h
   fails_as (Deep k) r s e h = sym e ∙ h
   fails_as Memory r s e h = tt
@@ -66,7 +67,7 @@ module _ {A : Type 0} (stops : List Token → Option (List Token)) (item : Reade
   repeats_end before height ts rest all found (zero, lt, e) = absurd (omega (arith, lt))
   repeats_end before height ts rest all found (suc n, lt, e) = sym e ∙ ap (λ o. with_front before height (if_found o (one_more n ts) nothing)) found ∙ front_end before height rest
 
-  pub repeats_fail : (f : Refusal) (before : List A) (height : ℕ) (ts : List Token) (all : Read A) → stops ts ≡ None → Fails f (item ts) → Repeats before height ts all → Fails f all
+  pub repeats_fail : (f : TokenFault) (before : List A) (height : ℕ) (ts : List Token) (all : Read A) → stops ts ≡ None → Fails f (item ts) → Repeats before height ts all → Fails f all
   unfolding repeated
   repeats_fail f before height ts all none fails (zero, lt, e) = absurd (omega (arith, lt))
   repeats_fail f before height ts all none fails (suc n, lt, e) =
@@ -98,7 +99,7 @@ module _ {A : Type 0} (more : Mark → Option Bool) (item : Reader (A × ℕ)) w
   pub separates_begin : (ts : List Token) → Separates [] 0 ts (separated more item (length ts + 1) ts)
   separates_begin ts = (length ts + 1, omega arith, front_nothing (separated more item (length ts + 1) ts))
 
-  pub separates_fail : (f : Refusal) (before : List A) (height : ℕ) (ts : List Token) (all : Read A) → Fails f (item ts) → Separates before height ts all → Fails f all
+  pub separates_fail : (f : TokenFault) (before : List A) (height : ℕ) (ts : List Token) (all : Read A) → Fails f (item ts) → Separates before height ts all → Fails f all
   unfolding separated
   separates_fail f before height ts all fails (zero, lt, e) = absurd (omega (arith, lt))
   separates_fail (Syntax k) before height ts all fails (suc n, lt, e) = sym e

@@ -24,14 +24,15 @@ use Rattle.c_parser.specs.Tokens.{nesting, is_nesting_key}
 use Rattle.c_parser.specs.Walk.{◌>>◌, mark, key}
 use Rattle.c_parser.specs.Expr.{part_of}
 use Rattle.c_parser.specs.Stmt.{is_empty, any_walk, vars_walk, vars_height}
-use Rattle.c_parser.specs.Reader.{Failure, Wrong, Reader, ◌>>=◌, at_mark, after}
-use Rattle.c_parser.specs.ReadExpr.{line_at, read_expr}
-use Rattle.c_parser.specs.ReadStmt.{repeated, separated, some_of, name_at, found, expect_name, type_at, is_declr_end, size_of, start_of, declr_end}
-use Rattle.c_parser.specs.ReadStmt.{declarator, declarations, no_type, local, locals, condition, present, optional, label_by, label, no_label, labels, list_end, leaf, returned, run}
-use Rattle.c_parser.specs.ReadStmt.{statements, otherwise, block, branch, whiled, done, counted, arm, arms, switched, stmt_by, stmt, read_stmt}
-use Rattle.c_parser.specs.ReadExpr.{is_separator}
+use Rattle.c_lexer.specs.Lexemes.{◌>>=◌}
+use Rattle.c_parser.specs.private.Reader.{Failure, Wrong, Reader, at_mark, after}
+use Rattle.c_parser.specs.private.ReadExpr.{line_at, read_expr}
+use Rattle.c_parser.specs.private.ReadStmt.{repeated, separated, some_of, name_at, found, expect_name, type_at, is_declr_end, size_of, start_of, declr_end}
+use Rattle.c_parser.specs.private.ReadStmt.{declarator, declarations, no_type, local, locals, condition, present, optional, label_by, label, no_label, labels, list_end, leaf, returned, run}
+use Rattle.c_parser.specs.private.ReadStmt.{statements, otherwise, block, branch, whiled, done, counted, arm, arms, switched, stmt_by, stmt, read_stmt}
+use Rattle.c_parser.specs.private.ReadExpr.{is_separator}
 use Rattle.c_parser.specs.Unit.{params_walk, params_named}
-use Rattle.c_parser.specs.ReadUnit.{array_at, param_of, parameter, parameters, body_of, headed, function_of, vars_of, item_of, read_item, at_end, read_items}
+use Rattle.c_parser.specs.private.ReadUnit.{array_at, param_of, parameter, parameters, body_of, headed, function_of, vars_of, item_of, read_item, at_end, read_items}
 use Rattle.c_parser.proofs.Steps.{mark_is, mark_takes, at_mark_some, then_some}
 use Rattle.c_parser.proofs.Deep.{Deeps, deeps_ok, deeps_wrong, deeps_bind, deeps_expected, deeps_expect, deeps_found, deeps_if, fewer, expr_deeps}
 use Rattle.c_parser.proofs.Nesting.{costs_token}

@@ -24,10 +24,11 @@ use Rattle.c_parser.specs.Expr.{fits_at, part_of}
 use Rattle.c_parser.specs.Stmt as tree
 use Rattle.c_parser.specs.Stmt.{StmtPart, ArmPart, highest, is_empty, any_walk, any_height, any_fits, past_int, type_walk, declr_walk, declr_fits, declr_height, vars_walk, vars_fit, vars_height}
 use Rattle.c_parser.specs.Stmt.{value_walk, label_walk, label_fits, label_height, else_walk, else_height, else_fits, else_takes, returned_height, stmt_step, arm_step, stmt_part, arm_part}
-use Rattle.c_parser.specs.Reader.{Failure, Wrong, Reader, ◌>>=◌, if_found, at_mark, expect, expected}
-use Rattle.c_parser.specs.ReadExpr.{read_expr}
-use Rattle.c_parser.specs.ReadStmt.{repeated, separated, some_of, name_by, name_at, found, expect_name, type_by, type_at, is_declr_end, size_of, start_of, declr_end}
-use Rattle.c_parser.specs.ReadStmt.{declarator, declarations, no_type, local, locals, condition, present, optional, label_by, label, begins_label, no_label, labels}
+use Rattle.c_lexer.specs.Lexemes.{◌>>=◌}
+use Rattle.c_parser.specs.private.Reader.{Failure, Wrong, Reader, if_found, at_mark, expect, expected}
+use Rattle.c_parser.specs.private.ReadExpr.{read_expr}
+use Rattle.c_parser.specs.private.ReadStmt.{repeated, separated, some_of, name_by, name_at, found, expect_name, type_by, type_at, is_declr_end, size_of, start_of, declr_end}
+use Rattle.c_parser.specs.private.ReadStmt.{declarator, declarations, no_type, local, locals, condition, present, optional, label_by, label, begins_label, no_label, labels}
 use Rattle.c_parser.proofs.Steps.{marked, and_true, then_some, on_then, named_some}
 use Rattle.c_parser.proofs.Spells.{then_walk}
 use Rattle.c_parser.proofs.Complete.{expr_full}

@@ -29,11 +29,12 @@ use Rattle.c_parser.specs.Expr.{fits_at, part_of}
 use Rattle.c_parser.specs.Stmt as tree
 use Rattle.c_parser.specs.Stmt.{StmtPart, ArmPart, highest, is_empty, any_walk, any_height, any_fits, past_int, type_walk, declr_walk, declr_fits, declr_height, vars_walk, vars_fit, vars_height}
 use Rattle.c_parser.specs.Stmt.{value_walk, label_walk, label_fits, label_height, else_walk, else_height, else_fits, returned_height, stmt_step, arm_step, stmt_part, arm_part}
-use Rattle.c_parser.specs.Reader.{Failure, Wrong, TooDeep, Reader, ◌>>=◌, if_found, at_mark, after, expected}
-use Rattle.c_parser.specs.ReadExpr.{line_at, read_expr}
-use Rattle.c_parser.specs.ReadStmt.{consed, repeated, separated, some_of, name_by, name_at, found, expect_name, type_by, type_at, is_declr_end, size_of, start_of, declr_end}
-use Rattle.c_parser.specs.ReadStmt.{declarator, declarations, no_type, local, locals, condition, present, optional, label_by, label, begins_label, no_label, labels, list_end, leaf, returned, run}
-use Rattle.c_parser.specs.ReadStmt.{statements, otherwise, block, branch, whiled, done, counted, arm, arms, switched, stmt_by, stmt, read_stmt}
+use Rattle.c_lexer.specs.Lexemes.{◌>>=◌}
+use Rattle.c_parser.specs.private.Reader.{Failure, Wrong, TooDeep, Reader, if_found, at_mark, after, expected}
+use Rattle.c_parser.specs.private.ReadExpr.{line_at, read_expr}
+use Rattle.c_parser.specs.private.ReadStmt.{consed, repeated, separated, some_of, name_by, name_at, found, expect_name, type_by, type_at, is_declr_end, size_of, start_of, declr_end}
+use Rattle.c_parser.specs.private.ReadStmt.{declarator, declarations, no_type, local, locals, condition, present, optional, label_by, label, begins_label, no_label, labels, list_end, leaf, returned, run}
+use Rattle.c_parser.specs.private.ReadStmt.{statements, otherwise, block, branch, whiled, done, counted, arm, arms, switched, stmt_by, stmt, read_stmt}
 use Rattle.c_parser.proofs.Steps.{mark_is, mark_takes, at_mark_some, past_some, takes_name, on_own, then_some}
 use Rattle.c_parser.proofs.Spells.{then_walk, both, fits_is}
 use Rattle.c_parser.proofs.Holds.{Holds, holds_ok, holds_err, holds_bind, holds_expect, holds_found, holds_if}
@@ -163,13 +164,13 @@ holds_some {A = A} P r h =
 
 -- ---- expressions, with their heights
 
-pub record Part (limit level : ℕ) (ts : List Token) (y : Operand × List Token) : Type 0 where
+pub record IsPhrase (limit level : ℕ) (ts : List Token) (y : Operand × List Token) : Type 0 where
   pub walks : (part_of y.0.expr).walk ts ≡ Some y.1
   pub fit : fits_at level (part_of y.0.expr) ≡ true
   pub high : (part_of y.0.expr).height ≡ y.0.height
   pub low : y.0.height ≤ limit
 
-pub part_sound : (limit level : ℕ) (ts : List Token) → level ≤ 14 → Holds (Part limit level ts) (read_expr limit level ts)
+pub part_sound : (limit level : ℕ) (ts : List Token) → level ≤ 14 → Holds (IsPhrase limit level ts) (read_expr limit level ts)
 part_sound limit level ts le = record {
   of = λ y read. let h = (expr_sound limit level ts le).of y read in record {
     walks = h.spells.walk;
@@ -190,7 +191,7 @@ unfolding condition
 condition_sound limit ts =
     let P = Condition limit ts in
     holds_expect P m.LeftParen ts _ (λ us begun.
-    holds_bind P (Part limit 14 us) (read_expr limit 14 us) _ (part_sound limit 14 us (lit≤ tt)) (λ x p.
+    holds_bind P (IsPhrase limit 14 us) (read_expr limit 14 us) _ (part_sound limit 14 us (lit≤ tt)) (λ x p.
     holds_expect P m.RightParen x.1 _ (λ rest close.
     holds_ok P (x.0, rest) (let q = part_of x.0.expr in record {
       walks = then_walk (mark m.LeftParen) (q.walk >> mark m.RightParen) ts us begun ∙ then_walk q.walk (mark m.RightParen) us x.1 p.walks ∙ close;
@@ -211,7 +212,7 @@ unfolding optional present
 optional_sound level end limit ts le =
     let P = Any limit level end ts in
     holds_found P (mark end ts) _ _
-    (holds_bind P (Part limit level ts) (read_expr limit level ts) _ (part_sound limit level ts le) (λ x p.
+    (holds_bind P (IsPhrase limit level ts) (read_expr limit level ts) _ (part_sound limit level ts le) (λ x p.
     holds_expect P end x.1 _ (λ rest close.
     holds_ok P ((Some x.0.expr, x.0.height), rest) (record {
       walks = then_walk (part_of x.0.expr).walk (mark end) ts x.1 p.walks ∙ close;
@@ -286,7 +287,7 @@ declr_end_sound limit ts =
     (holds_found P (mark m.Assign ts) _ _
     (holds_ok P (((None, None), 0), ts) (record { walks = refl; fit = refl; high = refl; low = omega arith }))
     (λ us found.
-    holds_bind P (Part limit 13 us) (read_expr limit 13 us) _ (part_sound limit 13 us (lit≤ tt)) (λ x p.
+    holds_bind P (IsPhrase limit 13 us) (read_expr limit 13 us) _ (part_sound limit 13 us (lit≤ tt)) (λ x p.
     holds_ok P (((None, Some x.0.expr), x.0.height), x.1) (record {
       walks = then_walk (mark m.Assign) (part_of x.0.expr).walk ts us found ∙ p.walks;
       fit = p.fit;
@@ -294,7 +295,7 @@ declr_end_sound limit ts =
       low = p.low;
     }))))
     (λ us found.
-    holds_bind P (Part limit 12 us) (read_expr limit 12 us) _ (part_sound limit 12 us (lit≤ tt)) (λ x p.
+    holds_bind P (IsPhrase limit 12 us) (read_expr limit 12 us) _ (part_sound limit 12 us (lit≤ tt)) (λ x p.
     holds_expect P m.RightBracket x.1 _ (λ rest close.
     holds_ok P (((Some x.0.expr, None), x.0.height), rest) (let q = part_of x.0.expr in record {
       walks = then_walk (mark m.LeftBracket) (q.walk >> mark m.RightBracket) ts us found ∙ then_walk q.walk (mark m.RightBracket) us x.1 p.walks ∙ close;
@@ -398,7 +399,7 @@ case_sound : (limit : ℕ) (t : Token) (ts : List Token) → t.kind ≡ tok.Keyw
 unfolding label_shape
 case_sound limit t ts e =
     let P = Is label_shape limit (t ∷ ts) in
-    holds_bind P (Part limit 12 ts) (read_expr limit 12 ts) _ (part_sound limit 12 ts (lit≤ tt)) (λ x p.
+    holds_bind P (IsPhrase limit 12 ts) (read_expr limit 12 ts) _ (part_sound limit 12 ts (lit≤ tt)) (λ x p.
     holds_expect P m.Colon x.1 _ (λ rest colon.
     holds_ok P ((record { value = Some x.0.expr; line = t.line }, x.0.height), rest) (let q = part_of x.0.expr in record {
       walks = then_walk (on t.line) ((key k.Case >> q.walk) >> mark m.Colon) (t ∷ ts) (t ∷ ts) (on_own t ts)
@@ -532,7 +533,7 @@ run_sound : (below : ℕ) (t : Token) (ts : List Token) → Holds (IsStmt (suc b
 unfolding run
 run_sound below t ts =
     let P = IsStmt (suc below) (t ∷ ts) in
-    holds_bind P (Part below 14 (t ∷ ts)) (read_expr below 14 (t ∷ ts)) _ (part_sound below 14 (t ∷ ts) (lit≤ tt)) (λ x p.
+    holds_bind P (IsPhrase below 14 (t ∷ ts)) (read_expr below 14 (t ∷ ts)) _ (part_sound below 14 (t ∷ ts) (lit≤ tt)) (λ x p.
     holds_expect P m.Semicolon x.1 _ (λ rest close.
     holds_ok P ((s.Run x.0.expr t.line, suc x.0.height), rest) (let q = part_of x.0.expr in
     by_form (suc below) (t ∷ ts) rest (s.Run x.0.expr t.line) _ (suc x.0.height) (part-Run x.0.expr t.line) (record {

@@ -3,11 +3,11 @@ use Rattle.std.proofs.Common.{◌≡◌, ◌<◌, length, arith, ℕ, Bool, true
 use Rattle.std.specs.Prelude.{if◌then◌else◌, is_some}
 use Rattle.nm_base.specs.declared.operator.Ctype.{Ctype}
 use Rattle.c_lexer.specs.declared.token.Token.{Token}
-use Rattle.c_parser.specs.declared.fault.Refusal.{Refusal}
-use Rattle.c_parser.specs.declared.fault.Refusal.TheVariants.{Syntax, Deep, Memory}
-use Rattle.c_parser.specs.Reader.{Wrong, Fails, if_found}
-use Rattle.c_parser.specs.ReadUnit.{at_end}
-use Rattle.c_parser.specs.ReadStmt.{type_at, no_type, local, declarations, begins_label, no_label, list_end}
+use Rattle.c_parser.specs.declared.fault.TokenFault.{TokenFault}
+use Rattle.c_parser.specs.declared.fault.TokenFault.TheVariants.{Syntax, Deep, Memory}
+use Rattle.c_parser.specs.private.Reader.{Wrong, Fails, if_found}
+use Rattle.c_parser.specs.private.ReadUnit.{at_end}
+use Rattle.c_parser.specs.private.ReadStmt.{type_at, no_type, local, declarations, begins_label, no_label, list_end}
 
 pub typed : (ts : List Token) (x : Ctype × List Token) → type_at ts ≡ Some x → no_type ts ≡ None
 typed ts x e = ap (λ (o : Option (Ctype × List Token)). if is_some o then None else Some ts) e
@@ -19,7 +19,7 @@ pub local_is : (limit : ℕ) (ts us : List Token) (of : Ctype) → type_at ts �
 unfolding local
 local_is limit ts us of e = ap (λ (o : Option (Ctype × List Token)). if_found o (Err Wrong) (λ x. declarations limit x.0 x.1)) e
 
-pub local_fails : (f : Refusal) (limit : ℕ) (ts us : List Token) (of : Ctype) → type_at ts ≡ Some (of, us) → Fails f (declarations limit of us) → Fails f (local limit ts)
+pub local_fails : (f : TokenFault) (limit : ℕ) (ts us : List Token) (of : Ctype) → type_at ts ≡ Some (of, us) → Fails f (declarations limit of us) → Fails f (local limit ts)
 local_fails (Syntax k) limit ts us of e h = local_is limit ts us of e ∙ h
 local_fails (Deep k) limit ts us of e h = local_is limit ts us of e ∙ h
 local_fails Memory limit ts us of e h = tt

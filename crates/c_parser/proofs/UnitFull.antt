@@ -24,10 +24,11 @@ use Rattle.c_parser.specs.Walk.{◌>>◌, stay, mark, key, named, each, listed, 
 use Rattle.c_parser.specs.Stmt.{highest, any_walk, any_height, any_fits, type_walk, declr_walk, vars_walk, vars_fit, vars_height, stmt_part}
 use Rattle.c_parser.specs.Unit.{array_walk, param_begin, param_walk, param_fits, param_height, past_void, params_walk, params_named, result_walk, head_walk, head_fits, head_height, item_walk}
 use Rattle.c_parser.specs.Unit.{item_fits, item_height, Derives, unit_height, UnitOf}
-use Rattle.c_parser.specs.Reader.{Failure, Wrong, ◌>>=◌, expect}
-use Rattle.c_parser.specs.ReadExpr.{line_at, is_separator}
-use Rattle.c_parser.specs.ReadStmt.{expect_name, name_at, type_at, declarations, optional, block, read_stmt}
-use Rattle.c_parser.specs.ReadUnit.{array_at, param_of, parameter, parameters, body_of, headed, function_of, vars_of, item_of, read_item, at_end, read_items}
+use Rattle.c_lexer.specs.Lexemes.{◌>>=◌}
+use Rattle.c_parser.specs.private.Reader.{Failure, Wrong, expect}
+use Rattle.c_parser.specs.private.ReadExpr.{line_at, is_separator}
+use Rattle.c_parser.specs.private.ReadStmt.{expect_name, name_at, type_at, declarations, optional, block, read_stmt}
+use Rattle.c_parser.specs.private.ReadUnit.{array_at, param_of, parameter, parameters, body_of, headed, function_of, vars_of, item_of, read_item, at_end, read_items}
 use Rattle.c_parser.proofs.Steps.{marked, then_some, on_then, and_true}
 use Rattle.c_parser.specs.Tokens.{mark_level, follow}
 use Rattle.c_tree.specs.declared.tree.Declr.{Declr}
@@ -45,7 +46,7 @@ use Rattle.c_parser.specs.Tokens.{nesting}
 use Rattle.c_parser.specs.Expr.{part_of}
 use Rattle.c_parser.specs.Walk.{commas}
 use Rattle.c_parser.specs.Stmt.{StmtPart, declr_end}
-use Rattle.c_parser.specs.ReadStmt.{found, name_by, type_by}
+use Rattle.c_parser.specs.private.ReadStmt.{found, name_by, type_by}
 use Rattle.c_tree.specs.declared.tree.Stmt.TheVariants as s
 use Rattle.c_parser.proofs.UnitSound.{param_shape, item_shape}
 
@@ -137,14 +138,6 @@ array_full true size ts rest walks fits low stops =
     let same : o.0 ≡ rest = let e : Some o.0 ≡ Some rest = o.2 in cc in
     found_to (mark m.LeftBracket ts) _ _ a.0 _ a.1
     (bind_to (optional 12 m.RightBracket 64 a.0) _ ((size, any_height size), o.0) _ o.1 (ap (λ (us : List Token). Ok (((true, size), any_height size), us)) same))
-
--- no name comes next where a parameter without a name goes on
-name_tok : (o : Tok) (t : Token) (ts : List Token) → (o ≡ tok.Name → ⊥) → name_by o t ts ≡ None
-name_tok tok.Name t ts e = absurd (e refl)
-name_tok tok.Text t ts e = refl
-name_tok (tok.Mark n) t ts e = refl
-name_tok (tok.Keyword l) t ts e = refl
-name_tok (tok.Const bits of) t ts e = refl
 
 marked_no_name : (n : Mark) (ts us : List Token) → mark n ts ≡ Some us → name_at ts ≡ None
 marked_no_name n ts us e =

@@ -23,10 +23,11 @@ use Rattle.c_parser.specs.Walk.{◌>>◌, mark, key, named, listed, on}
 use Rattle.c_parser.specs.Stmt.{highest, any_walk, any_height, any_fits, type_walk, stmt_part}
 use Rattle.c_parser.specs.Unit.{array_walk, param_begin, param_walk, param_fits, param_height, past_void, params_walk, params_named, result_walk, head_walk, head_fits, head_height, item_walk}
 use Rattle.c_parser.specs.Unit.{item_fits, item_height, UnitOf}
-use Rattle.c_parser.specs.Reader.{Wrong, Reader, ◌>>=◌, expect}
-use Rattle.c_parser.specs.ReadExpr.{line_at, is_separator}
-use Rattle.c_parser.specs.ReadStmt.{name_at, type_at, declarations, optional, locals, statements, block, read_stmt}
-use Rattle.c_parser.specs.ReadUnit.{array_at, param_of, parameter, parameters, body_of, headed, function_of, vars_of, item_of, read_item, at_end, read_items, tree_of}
+use Rattle.c_lexer.specs.Lexemes.{◌>>=◌}
+use Rattle.c_parser.specs.private.Reader.{Wrong, Reader, expect}
+use Rattle.c_parser.specs.private.ReadExpr.{line_at, is_separator}
+use Rattle.c_parser.specs.private.ReadStmt.{name_at, type_at, declarations, optional, locals, statements, block, read_stmt}
+use Rattle.c_parser.specs.private.ReadUnit.{array_at, param_of, parameter, parameters, body_of, headed, function_of, vars_of, item_of, read_item, at_end, read_items, tree_of}
 use Rattle.c_parser.proofs.Steps.{marked, on_own}
 use Rattle.c_parser.proofs.Spells.{then_walk, both}
 use Rattle.c_parser.proofs.Holds.{Holds, holds_ok, holds_err, holds_bind, holds_expect, holds_found, holds_if}

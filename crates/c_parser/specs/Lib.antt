@@ -1,12 +1,8 @@
 pub mod Tokens
 pub mod Walk
 pub mod Expr
-pub mod Operators
-pub mod Reader
-pub mod ReadExpr
 pub mod Stmt
 pub mod Unit
-pub mod ReadStmt
-pub mod ReadUnit
 pub mod Faults
-pub mod Law
+pub mod Laws
+pub mod private

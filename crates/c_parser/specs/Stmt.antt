@@ -51,7 +51,8 @@ past_int (t ∷ ts) = if is_key k.Int t.kind then ts else t ∷ ts
 
 abbrev pub type_walk : Ctype → Walk
 type_walk of [] = None
-type_walk Int (t ∷ ts) = if is_key k.Int t.kind then Some ts else (if is_key k.Signed t.kind then Some (past_int ts) else None)
+type_walk Int (t ∷ ts) =
+    if is_key k.Int t.kind then Some ts else (if is_key k.Signed t.kind then Some (past_int ts) else None)
 type_walk Unsigned (t ∷ ts) = if is_key k.Unsigned t.kind then Some (past_int ts) else None
 
 abbrev pub declr_end : Option Expr → Option Expr → Walk
@@ -135,7 +136,8 @@ returned_height (Some x) = suc (part_of x).height
 
 abbrev pub stmt_step : Stmt-F StmtPart ArmPart → StmtPart
 stmt_step (Stmt-F.Block locals list line) = record {
-  walk = on line >> mark m.LeftBrace >> each vars_walk locals >> each (λ (x : StmtPart). x.walk) list >> mark m.RightBrace;
+  walk =
+      on line >> mark m.LeftBrace >> each vars_walk locals >> each (λ (x : StmtPart). x.walk) list >> mark m.RightBrace;
   height = suc (max (highest vars_height locals) (highest (λ (x : StmtPart). x.height) list));
   fits = list_all vars_fit locals && list_all (λ (x : StmtPart). x.fits) list;
   takes_else = false;
@@ -150,7 +152,8 @@ stmt_step (Stmt-F.Run part line) = record {
   is_block = false;
 }
 stmt_step (Stmt-F.If test first second line) = record {
-  walk = on line >> key k.If >> mark m.LeftParen >> (part_of test).walk >> mark m.RightParen >> first.walk >> else_walk second;
+  walk = on line >> key k.If >> mark m.LeftParen >> (part_of test).walk >> mark m.RightParen >> first.walk
+      >> else_walk second;
   height = suc (max (part_of test).height (max first.height (else_height second)));
   fits = fits_at 14 (part_of test) && first.fits && else_fits first second;
   takes_else = else_takes second;
@@ -164,14 +167,16 @@ stmt_step (Stmt-F.While test body line) = record {
   is_block = false;
 }
 stmt_step (Stmt-F.Do body test line) = record {
-  walk = on line >> key k.Do >> body.walk >> key k.While >> mark m.LeftParen >> (part_of test).walk >> mark m.RightParen >> mark m.Semicolon;
+  walk = on line >> key k.Do >> body.walk >> key k.While >> mark m.LeftParen >> (part_of test).walk >> mark m.RightParen
+      >> mark m.Semicolon;
   height = suc (max body.height (part_of test).height);
   fits = body.fits && fits_at 14 (part_of test);
   takes_else = false;
   is_block = false;
 }
 stmt_step (Stmt-F.For start test third body line) = record {
-  walk = on line >> key k.For >> mark m.LeftParen >> any_walk start >> mark m.Semicolon >> any_walk test >> mark m.Semicolon
+  walk = on line >> key k.For >> mark m.LeftParen >> any_walk start >> mark m.Semicolon >> any_walk test
+      >> mark m.Semicolon
       >> any_walk third >> mark m.RightParen >> body.walk;
   height = suc (max (any_height start) (max (any_height test) (max (any_height third) body.height)));
   fits = any_fits 14 start && any_fits 14 test && any_fits 14 third && body.fits;
@@ -201,7 +206,8 @@ abbrev pub arm_step : Arm-F StmtPart ArmPart → ArmPart
 arm_step arm = record {
   walk = each label_walk arm.labels >> each (λ (x : StmtPart). x.walk) arm.list;
   height = max (highest label_height arm.labels) (highest (λ (x : StmtPart). x.height) arm.list);
-  fits = (not (is_empty arm.labels) && list_all label_fits arm.labels) && (not (is_empty arm.list) && list_all (λ (x : StmtPart). x.fits) arm.list);
+  fits = (not (is_empty arm.labels) && list_all label_fits arm.labels)
+      && (not (is_empty arm.list) && list_all (λ (x : StmtPart). x.fits) arm.list);
 }
 
 unfoldable pub stmt_part : Stmt → StmtPart

@@ -17,9 +17,6 @@ use Rattle.c_lexer.specs.declared.token.Mark.TheVariants as mark
 use Rattle.c_lexer.specs.contracts.token.Key.{the_type as keys}
 use Rattle.c_lexer.specs.contracts.token.Mark.{the_type as marks}
 
-abbrev pub same_type : Ctype → Ctype → Bool
-same_type a b = sameb ctype a b
-
 abbrev pub is_mark : Mark → Tok → Bool
 is_mark m (tok.Mark n) = sameb marks n m
 is_mark m _ = false
@@ -29,7 +26,7 @@ is_key k (tok.Keyword l) = sameb keys l k
 is_key k _ = false
 
 abbrev pub is_const : ℕ → Ctype → Tok → Bool
-is_const bits of (tok.Const bits' of') = bits' == bits && same_type of' of
+is_const bits of (tok.Const bits' of') = bits' == bits && sameb ctype of' of
 is_const bits of _ = false
 
 -- ---- spellings
@@ -77,7 +74,8 @@ assign_mark (Some op.BitXor) = Some mark.CaretAssign
 assign_mark (Some op.BitOr) = Some mark.OrAssign
 assign_mark (Some _) = None
 
--- ---- levels of the grammar: 0 postfix, 1 unary, 2 to 11 the binary operators, 12 `?:`, 13 assignments, 14 commas, and 15 a text
+-- ---- levels of the grammar: 0 postfix, 1 unary, 2 to 11 the binary operators, 12 `?:`, 13 assignments, 14 commas, and
+-- 15 a text
 
 -- the level of the right operand, which is one below the operator's own
 abbrev pub binary_level : BinaryOp → ℕ

@@ -53,7 +53,8 @@ result_walk None = key k.Void
 result_walk (Some of) = type_walk of
 
 abbrev pub head_walk : Head → Walk
-head_walk h = result_walk h.result >> on h.line >> named h.name >> mark m.LeftParen >> params_walk h.params >> mark m.RightParen
+head_walk h =
+    result_walk h.result >> on h.line >> named h.name >> mark m.LeftParen >> params_walk h.params >> mark m.RightParen
 
 abbrev pub head_fits : Head → Bool
 head_fits h = list_all param_fits h.params
@@ -72,7 +73,8 @@ item_walk (item.Function h body) = head_walk h >> (stmt_part body).walk
 abbrev pub item_fits : Item → Bool
 item_fits (item.Vars v) = vars_fit v
 item_fits (item.Proto h) = head_fits h
-item_fits (item.Function h body) = head_fits h && params_named h.params && (stmt_part body).is_block && (stmt_part body).fits
+item_fits (item.Function h body) =
+    head_fits h && params_named h.params && (stmt_part body).is_block && (stmt_part body).fits
 
 abbrev pub item_height : Item → ℕ
 item_height (item.Vars v) = max 1 (vars_height v)

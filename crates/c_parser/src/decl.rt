@@ -1,12 +1,12 @@
 //! Types and declarators.
 
 ghost use Rattle.std.specs.Prelude.{◌≡◌, ◌+◌, ◌<◌, ◌≤◌, length, max, IfOk, IfSome};
-ghost use Rattle.c_parser.specs.Reader.{Gives, Finds};
+ghost use Rattle.c_parser.specs.private.Reader.{ParseGives, Finds};
 ghost use Rattle.c_parser.specs.Stmt as tree;
-ghost use Rattle.c_parser.specs.ReadStmt as spec;
+ghost use Rattle.c_parser.specs.private.ReadStmt as spec;
 
 use crate::expr::expression;
-use crate::fault::Refusal;
+use crate::fault::TokenFault;
 use crate::operators::{ASSIGNMENT, CONDITIONAL};
 use crate::tokens::{after, expect, expect_name, higher, line_at, separator_or_end, wrong};
 use c_lexer::{Key, Mark, Tok, Token};
@@ -43,13 +43,13 @@ pub fn type_at(tokens: &[Token]) -> Option<(Ctype, &[Token])>
 }
 
 /// `size` and `]`, after a declarator's name and `[`.
-#[tactic(auto, unfolding(crate::specs::ReadStmt::size_of))]
+#[tactic(auto, unfolding(crate::specs::private::ReadStmt::size_of))]
 fn size_of(
     alloc: Global,
     tokens: &[Token],
     limit: u8,
-) -> Result<(Boxed<Expr>, u8, &[Token]), Refusal>
-    ensures value { Gives (λ x. (((Some x.0, None), x.1), x.2.now)) result (spec.size_of limit tokens.now) }
+) -> Result<(Boxed<Expr>, u8, &[Token]), TokenFault>
+    ensures value { ParseGives (λ x. (((Some x.0, None), x.1), x.2.now)) result (spec.size_of limit tokens.now) }
     ensures height { IfOk result (λ x. x.1 ≤ limit) }
     ensures shorter { IfOk result (λ x. length x.2.now < length tokens.now) }
 {
@@ -59,13 +59,13 @@ fn size_of(
 }
 
 /// `[size]` or `= start`, after a declarator's name.
-#[tactic(auto, unfolding(crate::specs::ReadStmt::declr_end, crate::specs::ReadStmt::start_of))]
+#[tactic(auto, unfolding(crate::specs::private::ReadStmt::declr_end, crate::specs::private::ReadStmt::start_of))]
 fn declr_end(
     alloc: Global,
     tokens: &[Token],
     limit: u8,
-) -> Result<(Option<Boxed<Expr>>, Option<Boxed<Expr>>, u8, &[Token]), Refusal>
-    ensures value { Gives (λ x. (((x.0, x.1), x.2), x.3.now)) result (spec.declr_end limit tokens.now) }
+) -> Result<(Option<Boxed<Expr>>, Option<Boxed<Expr>>, u8, &[Token]), TokenFault>
+    ensures value { ParseGives (λ x. (((x.0, x.1), x.2), x.3.now)) result (spec.declr_end limit tokens.now) }
     ensures height { IfOk result (λ x. x.2 ≤ limit) }
     ensures shorter { IfOk result (λ x. length x.3.now ≤ length tokens.now) }
 {
@@ -91,9 +91,13 @@ pub fn unboxed(part: Option<Boxed<Expr>>) -> Option<Expr>
 }
 
 /// A declarator, and the height of its part.
-#[tactic(auto, unfolding(crate::specs::ReadStmt::declarator))]
-fn declarator(alloc: Global, tokens: &[Token], limit: u8) -> Result<(Declr, u8, &[Token]), Refusal>
-    ensures value { Gives (λ x. ((x.0, x.1), x.2.now)) result (spec.declarator limit tokens.now) }
+#[tactic(auto, unfolding(crate::specs::private::ReadStmt::declarator))]
+fn declarator(
+    alloc: Global,
+    tokens: &[Token],
+    limit: u8,
+) -> Result<(Declr, u8, &[Token]), TokenFault>
+    ensures value { ParseGives (λ x. ((x.0, x.1), x.2.now)) result (spec.declarator limit tokens.now) }
     ensures height { IfOk result (λ x. x.1 ≤ limit) }
     ensures shorter { IfOk result (λ x. length x.2.now < length tokens.now) }
 {
@@ -114,8 +118,8 @@ fn declarators(
     alloc: Global,
     tokens: &[Token],
     limit: u8,
-) -> Result<(Vec<Declr>, u8, &[Token]), Refusal>
-    ensures value { Gives (λ x. ((x.0.items, x.1), x.2.now)) result
+) -> Result<(Vec<Declr>, u8, &[Token]), TokenFault>
+    ensures value { ParseGives (λ x. ((x.0.items, x.1), x.2.now)) result
         (spec.separated spec.is_declr_end (spec.declarator limit) (length tokens.now + 1) tokens.now) }
     ensures height { IfOk result (λ x. x.1 ≤ limit) }
     ensures shorter { IfOk result (λ x. length x.2.now < length tokens.now) }
@@ -138,14 +142,14 @@ fn declarators(
 }
 
 /// The declarators of a type up to the semicolon, and the height of the highest part.
-#[tactic(auto, unfolding(crate::specs::ReadStmt::declarations))]
+#[tactic(auto, unfolding(crate::specs::private::ReadStmt::declarations))]
 pub fn declarations(
     alloc: Global,
     of: Ctype,
     tokens: &[Token],
     limit: u8,
-) -> Result<(Vars, u8, &[Token]), Refusal>
-    ensures value { Gives (λ x. ((x.0, x.1), x.2.now)) result (spec.declarations limit of tokens.now) }
+) -> Result<(Vars, u8, &[Token]), TokenFault>
+    ensures value { ParseGives (λ x. ((x.0, x.1), x.2.now)) result (spec.declarations limit of tokens.now) }
     ensures height { IfOk result (λ x. x.1 ≤ limit) }
     ensures shorter { IfOk result (λ x. length x.2.now < length tokens.now) }
 {
@@ -155,13 +159,13 @@ pub fn declarations(
 }
 
 /// Declarations up to where no type comes next, and the height of the highest part.
-#[tactic(auto, unfolding(crate::specs::ReadStmt::locals))]
+#[tactic(auto, unfolding(crate::specs::private::ReadStmt::locals))]
 pub fn locals(
     alloc: Global,
     tokens: &[Token],
     limit: u8,
-) -> Result<(Vec<Vars>, u8, &[Token]), Refusal>
-    ensures value { Gives (λ x. ((x.0.items, x.1), x.2.now)) result (spec.locals limit tokens.now) }
+) -> Result<(Vec<Vars>, u8, &[Token]), TokenFault>
+    ensures value { ParseGives (λ x. ((x.0.items, x.1), x.2.now)) result (spec.locals limit tokens.now) }
     ensures height { IfOk result (λ x. x.1 ≤ limit) }
     ensures shorter { IfOk result (λ x. length x.2.now ≤ length tokens.now) }
 {

@@ -1,7 +1,7 @@
 //! Why tokens are refused.
 
 ghost use Rattle.std.specs.Prelude.{◌≡◌};
-ghost use Rattle.c_parser.specs.declared.fault.Refusal.TheVariants.{Memory};
+ghost use Rattle.c_parser.specs.declared.fault.TokenFault.TheVariants.{Memory};
 
 use nm_base::WantOfMemory;
 use std::alloc::{AllocError, AllocFailed};
@@ -23,32 +23,32 @@ pub enum ParseFault {
 
 /// Why no value is read, with the number of tokens that were left there.
 #[derive(Clone, Copy, Debug, PartialEq, Eq)]
-pub enum Refusal {
+pub enum TokenFault {
     Syntax { left: usize },
     Deep { left: usize },
     Memory,
 }
 
-impl From<AllocError> for Refusal {
+impl From<AllocError> for TokenFault {
     ghost from_gives = { λ _ e. e ≡ Memory };
 
-    fn from(_error: AllocError) -> Refusal {
-        Refusal::Memory
+    fn from(_error: AllocError) -> TokenFault {
+        TokenFault::Memory
     }
 }
 
-impl<T: Drop> From<AllocFailed<T>> for Refusal {
+impl<T: Drop> From<AllocFailed<T>> for TokenFault {
     ghost from_gives = { λ _ e. e ≡ Memory };
 
-    fn from(_error: AllocFailed<T>) -> Refusal {
-        Refusal::Memory
+    fn from(_error: AllocFailed<T>) -> TokenFault {
+        TokenFault::Memory
     }
 }
 
-impl From<WantOfMemory> for Refusal {
+impl From<WantOfMemory> for TokenFault {
     ghost from_gives = { λ _ e. e ≡ Memory };
 
-    fn from(_error: WantOfMemory) -> Refusal {
-        Refusal::Memory
+    fn from(_error: WantOfMemory) -> TokenFault {
+        TokenFault::Memory
     }
 }

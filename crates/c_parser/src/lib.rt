@@ -4,7 +4,11 @@
 mod decl;
 mod expr;
 mod fault;
-mod law;
+mod inner;
+mod labels;
+mod laws;
+mod leaves;
+mod nodes;
 mod operators;
 mod parser;
 mod stmt;
@@ -12,7 +16,7 @@ mod tokens;
 mod unit;
 
 pub use fault::ParseFault;
-pub use law::one_tree;
+pub use laws::tree_law;
 pub use parser::parse;
 pub use unit::MAX_HEIGHT;
 

@@ -7,7 +7,7 @@ ghost use Rattle.c_parser.specs.Tokens.{nesting};
 ghost use Rattle.c_parser.specs.Unit.{UnitOf, Derives, unit_height};
 ghost use Rattle.c_parser.specs.Faults.{IsLine, IsNestingLine, IsNoUnit, Answers, OnSyntax, OnDeep};
 
-use crate::fault::{ParseFault, Refusal};
+use crate::fault::{ParseFault, TokenFault};
 use crate::unit::items;
 use c_lexer::{Key, Mark, Tok, Token};
 use c_tree::Tree;
@@ -95,12 +95,12 @@ pub fn parse(alloc: Global, tokens: &[Token]) -> Result<Tree, ParseFault>
         Ok((items, _height)) => Ok(Tree {
             items: List::from_vec(items),
         }),
-        Err(Refusal::Syntax { left }) => Err(ParseFault::Syntax {
+        Err(TokenFault::Syntax { left }) => Err(ParseFault::Syntax {
             line: syntax_line(tokens, left),
         }),
-        Err(Refusal::Deep { left }) => Err(ParseFault::Deep {
+        Err(TokenFault::Deep { left }) => Err(ParseFault::Deep {
             line: nesting_line(tokens, left),
         }),
-        Err(Refusal::Memory) => Err(ParseFault::Memory),
+        Err(TokenFault::Memory) => Err(ParseFault::Memory),
     }
 }

@@ -1,331 +1,23 @@
 //! Statements. A part that was read comes with its height.
 
-ghost use Rattle.std.specs.Prelude.{◌≡◌, ◌+◌, ◌<◌, ◌≤◌, suc, length, max, is_some, IfOk};
-ghost use Rattle.c_lexer.specs.declared.token.Tok.TheVariants as tok;
-ghost use Rattle.c_lexer.specs.declared.token.Key.TheVariants as key;
-ghost use Rattle.c_tree.specs.declared.tree.Stmt.TheVariants as made;
-ghost use Rattle.c_parser.specs.Reader.{Gives};
-ghost use Rattle.c_parser.specs.ReadStmt as spec;
+ghost use Rattle.std.specs.Prelude.{◌≡◌, ◌+◌, ◌<◌, ◌≤◌, length, max, IfOk};
+ghost use Rattle.c_parser.specs.private.Reader.{ParseGives};
+ghost use Rattle.c_parser.specs.private.ReadStmt as spec;
 
-use crate::decl::{locals, unboxed};
-use crate::expr::{Operand, expression};
-use crate::fault::Refusal;
-use crate::operators::{COMMA, CONDITIONAL};
+use crate::decl::locals;
+use crate::expr::expression;
+use crate::fault::TokenFault;
+use crate::inner::{above, condition, optional};
+use crate::labels::{ends_list, labels};
+use crate::leaves::{leaf, returned, run};
+use crate::nodes::{Heads, block_node, do_node, for_node, if_node, switch_node, while_node};
+use crate::operators::COMMA;
 use crate::tokens::{after, after_key, expect, expect_key, higher, too_deep, wrong};
 use c_lexer::{Key, Mark, Tok, Token};
-use c_tree::{Arm, Expr, Label, Stmt, Vars};
+use c_tree::{Arm, Stmt};
 use nm_base::List;
 use sqlite_items::Boxed;
-use std::alloc::{AllocError, Global};
-
-/// An expression in parentheses.
-#[tactic(auto, unfolding(crate::specs::ReadStmt::condition))]
-fn condition(alloc: Global, tokens: &[Token], limit: u8) -> Result<(Operand, &[Token]), Refusal>
-    ensures value { Gives (λ x. (x.0, x.1.now)) result (spec.condition limit tokens.now) }
-    ensures height { IfOk result (λ x. x.0.height ≤ limit) }
-    ensures shorter { IfOk result (λ x. length x.1.now < length tokens.now) }
-{
-    let rest = expect(tokens, Mark::LeftParen)?;
-    let (test, rest) = expression(alloc, rest, COMMA, limit)?;
-    let rest = expect(rest, Mark::RightParen)?;
-    Ok((test, rest))
-}
-
-/// An expression that may be missing, and its height or 0.
-#[derive(Drop)]
-pub struct OptionalPart {
-    pub part: Option<Boxed<Expr>>,
-    pub height: u8,
-}
-
-/// An expression of a level up to a mark, or the mark alone.
-#[tactic(auto, unfolding(crate::specs::ReadStmt::optional, crate::specs::ReadStmt::present))]
-pub fn optional(
-    alloc: Global,
-    tokens: &[Token],
-    level: u8,
-    end: Mark,
-    limit: u8,
-) -> Result<(OptionalPart, &[Token]), Refusal>
-    requires { level ≤ 14 }
-    ensures value { Gives (λ x. ((x.0.part, x.0.height), x.1.now)) result (spec.optional level end limit tokens.now) }
-    ensures height { IfOk result (λ x. x.0.height ≤ limit) }
-    ensures shorter { IfOk result (λ x. length x.1.now < length tokens.now) }
-{
-    if let Some(rest) = after(tokens, end) {
-        let none = OptionalPart {
-            part: None,
-            height: 0,
-        };
-        return Ok((none, rest));
-    }
-    let (part, rest) = expression(alloc, tokens, level, limit)?;
-    let rest = expect(rest, end)?;
-    let some = OptionalPart {
-        part: Some(part.expr),
-        height: part.height,
-    };
-    Ok((some, rest))
-}
-
-// ---- nodes, each in a box of its own
-
-/// The height of what has parts of these heights.
-fn above(a: u8, b: u8) -> u8
-    requires { max a b < 255 }
-    ensures { result ≡ suc (max a b) }
-{
-    a.max(b) + 1
-}
-
-fn if_node(
-    alloc: Global,
-    test: Boxed<Expr>,
-    yes: Boxed<Stmt>,
-    no: Option<Boxed<Stmt>>,
-    line: u32,
-) -> Result<Boxed<Stmt>, AllocError>
-    ensures { IfOk result (λ x. x ≡ made.If test yes no line) }
-{
-    let test = test.into_inner();
-    Boxed::new(
-        alloc,
-        Stmt::If {
-            test,
-            yes,
-            no,
-            line,
-        },
-    )
-}
-
-fn while_node(
-    alloc: Global,
-    test: Boxed<Expr>,
-    body: Boxed<Stmt>,
-    line: u32,
-) -> Result<Boxed<Stmt>, AllocError>
-    ensures { IfOk result (λ x. x ≡ made.While test body line) }
-{
-    let test = test.into_inner();
-    Boxed::new(alloc, Stmt::While { test, body, line })
-}
-
-fn do_node(
-    alloc: Global,
-    body: Boxed<Stmt>,
-    test: Boxed<Expr>,
-    line: u32,
-) -> Result<Boxed<Stmt>, AllocError>
-    ensures { IfOk result (λ x. x ≡ made.Do body test line) }
-{
-    let test = test.into_inner();
-    Boxed::new(alloc, Stmt::Do { body, test, line })
-}
-
-/// The three parts of the head of a `for`.
-#[derive(Drop)]
-struct Heads {
-    first: Option<Boxed<Expr>>,
-    test: Option<Boxed<Expr>>,
-    third: Option<Boxed<Expr>>,
-}
-
-fn for_node(
-    alloc: Global,
-    heads: Heads,
-    body: Boxed<Stmt>,
-    line: u32,
-) -> Result<Boxed<Stmt>, AllocError>
-    ensures { IfOk result (λ x. x ≡ made.For heads.first heads.test heads.third body line) }
-{
-    let first = unboxed(heads.first);
-    let test = unboxed(heads.test);
-    let third = unboxed(heads.third);
-    Boxed::new(
-        alloc,
-        Stmt::For {
-            first,
-            test,
-            third,
-            body,
-            line,
-        },
-    )
-}
-
-fn switch_node(
-    alloc: Global,
-    on: Boxed<Expr>,
-    arms: Vec<Arm>,
-    line: u32,
-) -> Result<Boxed<Stmt>, AllocError>
-    ensures { IfOk result (λ x. x ≡ made.Switch on arms.items line) }
-{
-    let on = on.into_inner();
-    let arms = List::from_vec(arms);
-    Boxed::new(alloc, Stmt::Switch { on, arms, line })
-}
-
-fn block_node(
-    alloc: Global,
-    locals: Vec<Vars>,
-    list: Vec<Stmt>,
-    line: u32,
-) -> Result<Boxed<Stmt>, AllocError>
-    ensures { IfOk result (λ x. x ≡ made.Block locals.items list.items line) }
-{
-    let locals = List::from_vec(locals);
-    let list = List::from_vec(list);
-    Boxed::new(alloc, Stmt::Block { locals, list, line })
-}
-
-fn return_node(
-    alloc: Global,
-    value: Option<Boxed<Expr>>,
-    line: u32,
-) -> Result<Boxed<Stmt>, AllocError>
-    ensures { IfOk result (λ x. x ≡ made.Return value line) }
-{
-    let value = unboxed(value);
-    Boxed::new(alloc, Stmt::Return { value, line })
-}
-
-fn run_node(alloc: Global, part: Boxed<Expr>, line: u32) -> Result<Boxed<Stmt>, AllocError>
-    ensures { IfOk result (λ x. x ≡ made.Run part line) }
-{
-    let part = part.into_inner();
-    Boxed::new(alloc, Stmt::Run { part, line })
-}
-
-// ---- statements without statements in them
-
-/// A statement of a keyword alone, up to its semicolon.
-#[tactic(auto, unfolding(crate::specs::ReadStmt::leaf))]
-fn leaf(tokens: &[Token], stmt: Boxed<Stmt>) -> Result<(Boxed<Stmt>, u8, &[Token]), Refusal>
-    ensures value { Gives (λ x. ((x.0, x.1), x.2.now)) result (spec.leaf stmt tokens.now) }
-    ensures height { IfOk result (λ x. x.1 ≡ 1) }
-    ensures shorter { IfOk result (λ x. length x.2.now < length tokens.now) }
-{
-    let rest = expect(tokens, Mark::Semicolon)?;
-    Ok((stmt, 1, rest))
-}
-
-/// What follows `return`.
-#[tactic(auto, unfolding(crate::specs::ReadStmt::returned))]
-fn returned(
-    alloc: Global,
-    tokens: &[Token],
-    line: u32,
-    below: u8,
-) -> Result<(Boxed<Stmt>, u8, &[Token]), Refusal>
-    requires { below < 255 }
-    ensures value { Gives (λ x. ((x.0, x.1), x.2.now)) result (spec.returned below line tokens.now) }
-    ensures height { IfOk result (λ x. x.1 ≤ below + 1) }
-    ensures shorter { IfOk result (λ x. length x.2.now < length tokens.now) }
-{
-    let (value, rest) = optional(alloc, tokens, COMMA, Mark::Semicolon, below)?;
-    let stmt = return_node(alloc, value.part, line)?;
-    Ok((stmt, value.height + 1, rest))
-}
-
-/// An expression as a statement.
-#[tactic(auto, unfolding(crate::specs::ReadStmt::run))]
-fn run(
-    alloc: Global,
-    tokens: &[Token],
-    line: u32,
-    below: u8,
-) -> Result<(Boxed<Stmt>, u8, &[Token]), Refusal>
-    requires { below < 255 }
-    ensures value { Gives (λ x. ((x.0, x.1), x.2.now)) result (spec.run below line tokens.now) }
-    ensures height { IfOk result (λ x. x.1 ≤ below + 1) }
-    ensures shorter { IfOk result (λ x. length x.2.now < length tokens.now) }
-{
-    let (part, rest) = expression(alloc, tokens, COMMA, below)?;
-    let rest = expect(rest, Mark::Semicolon)?;
-    let height = part.height + 1;
-    let stmt = run_node(alloc, part.expr, line)?;
-    Ok((stmt, height, rest))
-}
-
-// ---- labels
-
-/// Whether a label comes next.
-fn begins_label(tokens: &[Token]) -> bool
-    ensures { result ≡ spec.begins_label tokens.now }
-{
-    after_key(tokens, Key::Case).is_some() || after_key(tokens, Key::Default).is_some()
-}
-
-/// Whether a list of statements ends here.
-fn ends_list(tokens: &[Token]) -> bool
-    ensures { result ≡ is_some (spec.list_end tokens.now) }
-{
-    after(tokens, Mark::RightBrace).is_some() || begins_label(tokens)
-}
-
-/// What follows `case`.
-fn case_of(
-    alloc: Global,
-    tokens: &[Token],
-    line: u32,
-    limit: u8,
-) -> Result<(Label, u8, &[Token]), Refusal>
-    ensures value { Gives (λ x. ((x.0, x.1), x.2.now)) result (spec.label_by limit (tok.Keyword key.Case) line tokens.now) }
-    ensures height { IfOk result (λ x. x.1 ≤ limit) }
-    ensures shorter { IfOk result (λ x. length x.2.now < length tokens.now) }
-{
-    let (value, rest) = expression(alloc, tokens, CONDITIONAL, limit)?;
-    let rest = expect(rest, Mark::Colon)?;
-    let label = Label {
-        value: Some(value.expr.into_inner()),
-        line,
-    };
-    Ok((label, value.height, rest))
-}
-
-/// A label, and the height of its constant or 0.
-#[tactic(auto, unfolding(crate::specs::ReadStmt::label))]
-fn label(alloc: Global, tokens: &[Token], limit: u8) -> Result<(Label, u8, &[Token]), Refusal>
-    ensures value { Gives (λ x. ((x.0, x.1), x.2.now)) result (spec.label limit tokens.now) }
-    ensures height { IfOk result (λ x. x.1 ≤ limit) }
-    ensures shorter { IfOk result (λ x. length x.2.now < length tokens.now) }
-{
-    let [token, rest @ ..] = tokens else {
-        return Err(wrong(tokens));
-    };
-    let line = token.line;
-    match token.kind {
-        Tok::Keyword(Key::Default) => {
-            let rest = expect(rest, Mark::Colon)?;
-            Ok((Label { value: None, line }, 0, rest))
-        }
-        Tok::Keyword(Key::Case) => case_of(alloc, rest, line, limit),
-        _ => Err(wrong(tokens)),
-    }
-}
-
-/// Labels up to where none comes next, and the greatest height.
-fn labels(alloc: Global, tokens: &[Token], limit: u8) -> Result<(Vec<Label>, u8, &[Token]), Refusal>
-    ensures value { Gives (λ x. ((x.0.items, x.1), x.2.now)) result
-        (spec.repeated spec.no_label (spec.label limit) (length tokens.now + 1) tokens.now) }
-    ensures height { IfOk result (λ x. x.1 ≤ limit) }
-    ensures shorter { IfOk result (λ x. length x.2.now + length x.0.items ≤ length tokens.now) }
-{
-    let mut list = Vec::new(alloc);
-    let mut highest = 0;
-    let mut rest = tokens;
-    while begins_label(rest) {
-        let (label, height, next) = label(alloc, rest, limit)?;
-        list.push(label)?;
-        highest = higher(highest, height);
-        rest = next;
-    }
-    Ok((list, highest, rest))
-}
-
-// ---- statements with statements in them
+use std::alloc::Global;
 
 /// What a statement is by its first token.
 #[derive(Clone, Copy, Debug, PartialEq, Eq)]
@@ -362,14 +54,14 @@ fn form_of(kind: Tok) -> Option<StmtForm>
 }
 
 /// The statement that comes next, at most `limit` high, and its height.
-#[tactic(auto, unfolding(crate::specs::ReadStmt::read_stmt, crate::specs::ReadStmt::stmt))]
+#[tactic(auto, unfolding(crate::specs::private::ReadStmt::read_stmt, crate::specs::private::ReadStmt::stmt))]
 #[cycle(stmt)]
 pub fn statement(
     alloc: Global,
     tokens: &[Token],
     limit: u8,
-) -> Result<(Boxed<Stmt>, u8, &[Token]), Refusal>
-    ensures value { Gives (λ x. ((x.0, x.1), x.2.now)) result (spec.read_stmt limit tokens.now) }
+) -> Result<(Boxed<Stmt>, u8, &[Token]), TokenFault>
+    ensures value { ParseGives (λ x. ((x.0, x.1), x.2.now)) result (spec.read_stmt limit tokens.now) }
     ensures height { IfOk result (λ x. x.1 ≤ limit) }
     ensures shorter { IfOk result (λ x. length x.2.now < length tokens.now) }
 {
@@ -397,16 +89,17 @@ pub fn statement(
 }
 
 /// What follows `if`. An `else` that comes next belongs to it.
-#[tactic(auto, unfolding(crate::specs::ReadStmt::branch))]
+#[tactic(auto, unfolding(crate::specs::private::ReadStmt::branch))]
 #[cycle(stmt)]
 fn branch(
     alloc: Global,
     tokens: &[Token],
     line: u32,
     below: u8,
-) -> Result<(Boxed<Stmt>, u8, &[Token]), Refusal>
+) -> Result<(Boxed<Stmt>, u8, &[Token]), TokenFault>
     requires { below < 255 }
-    ensures value { Gives (λ x. ((x.0, x.1), x.2.now)) result (spec.branch below (spec.read_stmt below) line tokens.now) }
+    ensures value { ParseGives (λ x. ((x.0, x.1), x.2.now)) result
+        (spec.branch below (spec.read_stmt below) line tokens.now) }
     ensures height { IfOk result (λ x. x.1 ≤ below + 1) }
     ensures shorter { IfOk result (λ x. length x.2.now < length tokens.now) }
 {
@@ -419,15 +112,15 @@ fn branch(
 }
 
 /// `else` and its statement, if it comes next, and its height or 0.
-#[tactic(auto, unfolding(crate::specs::ReadStmt::otherwise))]
+#[tactic(auto, unfolding(crate::specs::private::ReadStmt::otherwise))]
 #[cycle(stmt)]
 fn otherwise(
     alloc: Global,
     tokens: &[Token],
     below: u8,
-) -> Result<(Option<Boxed<Stmt>>, u8, &[Token]), Refusal>
+) -> Result<(Option<Boxed<Stmt>>, u8, &[Token]), TokenFault>
     requires { below < 255 }
-    ensures value { Gives (λ x. ((x.0, x.1), x.2.now)) result (spec.otherwise (spec.read_stmt below) tokens.now) }
+    ensures value { ParseGives (λ x. ((x.0, x.1), x.2.now)) result (spec.otherwise (spec.read_stmt below) tokens.now) }
     ensures height { IfOk result (λ x. x.1 ≤ below) }
     ensures shorter { IfOk result (λ x. length x.2.now ≤ length tokens.now) }
 {
@@ -439,16 +132,17 @@ fn otherwise(
 }
 
 /// What follows `while`.
-#[tactic(auto, unfolding(crate::specs::ReadStmt::whiled))]
+#[tactic(auto, unfolding(crate::specs::private::ReadStmt::whiled))]
 #[cycle(stmt)]
 fn repeated(
     alloc: Global,
     tokens: &[Token],
     line: u32,
     below: u8,
-) -> Result<(Boxed<Stmt>, u8, &[Token]), Refusal>
+) -> Result<(Boxed<Stmt>, u8, &[Token]), TokenFault>
     requires { below < 255 }
-    ensures value { Gives (λ x. ((x.0, x.1), x.2.now)) result (spec.whiled below (spec.read_stmt below) line tokens.now) }
+    ensures value { ParseGives (λ x. ((x.0, x.1), x.2.now)) result
+        (spec.whiled below (spec.read_stmt below) line tokens.now) }
     ensures height { IfOk result (λ x. x.1 ≤ below + 1) }
     ensures shorter { IfOk result (λ x. length x.2.now < length tokens.now) }
 {
@@ -460,16 +154,17 @@ fn repeated(
 }
 
 /// What follows `do`.
-#[tactic(auto, unfolding(crate::specs::ReadStmt::done))]
+#[tactic(auto, unfolding(crate::specs::private::ReadStmt::done))]
 #[cycle(stmt)]
 fn done(
     alloc: Global,
     tokens: &[Token],
     line: u32,
     below: u8,
-) -> Result<(Boxed<Stmt>, u8, &[Token]), Refusal>
+) -> Result<(Boxed<Stmt>, u8, &[Token]), TokenFault>
     requires { below < 255 }
-    ensures value { Gives (λ x. ((x.0, x.1), x.2.now)) result (spec.done below (spec.read_stmt below) line tokens.now) }
+    ensures value { ParseGives (λ x. ((x.0, x.1), x.2.now)) result
+        (spec.done below (spec.read_stmt below) line tokens.now) }
     ensures height { IfOk result (λ x. x.1 ≤ below + 1) }
     ensures shorter { IfOk result (λ x. length x.2.now < length tokens.now) }
 {
@@ -483,16 +178,17 @@ fn done(
 }
 
 /// What follows `for`.
-#[tactic(auto, unfolding(crate::specs::ReadStmt::counted))]
+#[tactic(auto, unfolding(crate::specs::private::ReadStmt::counted))]
 #[cycle(stmt)]
 fn counted(
     alloc: Global,
     tokens: &[Token],
     line: u32,
     below: u8,
-) -> Result<(Boxed<Stmt>, u8, &[Token]), Refusal>
+) -> Result<(Boxed<Stmt>, u8, &[Token]), TokenFault>
     requires { below < 255 }
-    ensures value { Gives (λ x. ((x.0, x.1), x.2.now)) result (spec.counted below (spec.read_stmt below) line tokens.now) }
+    ensures value { ParseGives (λ x. ((x.0, x.1), x.2.now)) result
+        (spec.counted below (spec.read_stmt below) line tokens.now) }
     ensures height { IfOk result (λ x. x.1 ≤ below + 1) }
     ensures shorter { IfOk result (λ x. length x.2.now < length tokens.now) }
 {
@@ -512,16 +208,17 @@ fn counted(
 }
 
 /// What follows `switch`.
-#[tactic(auto, unfolding(crate::specs::ReadStmt::switched))]
+#[tactic(auto, unfolding(crate::specs::private::ReadStmt::switched))]
 #[cycle(stmt)]
 fn switched(
     alloc: Global,
     tokens: &[Token],
     line: u32,
     below: u8,
-) -> Result<(Boxed<Stmt>, u8, &[Token]), Refusal>
+) -> Result<(Boxed<Stmt>, u8, &[Token]), TokenFault>
     requires { below < 255 }
-    ensures value { Gives (λ x. ((x.0, x.1), x.2.now)) result (spec.switched below (spec.read_stmt below) line tokens.now) }
+    ensures value { ParseGives (λ x. ((x.0, x.1), x.2.now)) result
+        (spec.switched below (spec.read_stmt below) line tokens.now) }
     ensures height { IfOk result (λ x. x.1 ≤ below + 1) }
     ensures shorter { IfOk result (λ x. length x.2.now < length tokens.now) }
 {
@@ -534,16 +231,17 @@ fn switched(
 }
 
 /// What follows an opening brace.
-#[tactic(auto, unfolding(crate::specs::ReadStmt::block))]
+#[tactic(auto, unfolding(crate::specs::private::ReadStmt::block))]
 #[cycle(stmt)]
 pub fn block(
     alloc: Global,
     tokens: &[Token],
     line: u32,
     below: u8,
-) -> Result<(Boxed<Stmt>, u8, &[Token]), Refusal>
+) -> Result<(Boxed<Stmt>, u8, &[Token]), TokenFault>
     requires { below < 255 }
-    ensures value { Gives (λ x. ((x.0, x.1), x.2.now)) result (spec.block below (spec.read_stmt below) line tokens.now) }
+    ensures value { ParseGives (λ x. ((x.0, x.1), x.2.now)) result
+        (spec.block below (spec.read_stmt below) line tokens.now) }
     ensures height { IfOk result (λ x. x.1 ≤ below + 1) }
     ensures shorter { IfOk result (λ x. length x.2.now < length tokens.now) }
 {
@@ -561,9 +259,10 @@ fn statements(
     alloc: Global,
     tokens: &[Token],
     below: u8,
-) -> Result<(Vec<Stmt>, u8, &[Token]), Refusal>
+) -> Result<(Vec<Stmt>, u8, &[Token]), TokenFault>
     requires { below < 255 }
-    ensures value { Gives (λ x. ((x.0.items, x.1), x.2.now)) result (spec.statements (spec.read_stmt below) tokens.now) }
+    ensures value { ParseGives (λ x. ((x.0.items, x.1), x.2.now)) result
+        (spec.statements (spec.read_stmt below) tokens.now) }
     ensures height { IfOk result (λ x. x.1 ≤ below) }
     ensures shorter { IfOk result (λ x. length x.2.now + length x.0.items ≤ length tokens.now) }
 {
@@ -583,9 +282,10 @@ fn statements(
 
 /// Arms up to the closing brace, and the greatest height.
 #[cycle(stmt)]
-fn arms(alloc: Global, tokens: &[Token], below: u8) -> Result<(Vec<Arm>, u8, &[Token]), Refusal>
+fn arms(alloc: Global, tokens: &[Token], below: u8) -> Result<(Vec<Arm>, u8, &[Token]), TokenFault>
     requires { below < 255 }
-    ensures value { Gives (λ x. ((x.0.items, x.1), x.2.now)) result (spec.arms below (spec.read_stmt below) tokens.now) }
+    ensures value { ParseGives (λ x. ((x.0.items, x.1), x.2.now)) result
+        (spec.arms below (spec.read_stmt below) tokens.now) }
     ensures height { IfOk result (λ x. x.1 ≤ below) }
     ensures shorter { IfOk result (λ x. length x.2.now < length tokens.now) }
 {
@@ -604,11 +304,11 @@ fn arms(alloc: Global, tokens: &[Token], below: u8) -> Result<(Vec<Arm>, u8, &[T
 }
 
 /// Labels, at least one, and their statements, at least one, with the greatest height.
-#[tactic(auto, unfolding(crate::specs::ReadStmt::arm, crate::specs::ReadStmt::labels))]
+#[tactic(auto, unfolding(crate::specs::private::ReadStmt::arm, crate::specs::private::ReadStmt::labels))]
 #[cycle(stmt)]
-fn arm(alloc: Global, tokens: &[Token], below: u8) -> Result<(Arm, u8, &[Token]), Refusal>
+fn arm(alloc: Global, tokens: &[Token], below: u8) -> Result<(Arm, u8, &[Token]), TokenFault>
     requires { below < 255 }
-    ensures value { Gives (λ x. ((x.0, x.1), x.2.now)) result (spec.arm below (spec.read_stmt below) tokens.now) }
+    ensures value { ParseGives (λ x. ((x.0, x.1), x.2.now)) result (spec.arm below (spec.read_stmt below) tokens.now) }
     ensures height { IfOk result (λ x. x.1 ≤ below) }
     ensures shorter { IfOk result (λ x. length x.2.now < length tokens.now) }
 {

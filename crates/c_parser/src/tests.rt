@@ -1,13 +1,14 @@
 ghost use Rattle.std.specs.Prelude.{◌≤◌, length};
 
 use crate::{ParseFault, parse};
-use c_lexer::{MAX_SOURCE_LEN, lex};
+use c_lexer::lex;
+use nm_base::MAX_PROGRAM_BYTES;
 use std::alloc::{AllocError, Global};
 use std::test::Fail;
 
 /// Whether the text has a tree, or why not. A text that the lexer refuses is no row.
 fn answer(alloc: Global, text: &[u8]) -> Option<ParseFault>
-    requires { length text.now ≤ MAX_SOURCE_LEN }
+    requires { length text.now ≤ MAX_PROGRAM_BYTES }
 {
     match lex(alloc, text) {
         Ok(tokens) => parse(alloc, tokens.as_slice()).err(),
@@ -67,7 +68,7 @@ fn rows(rt: HostRuntime) {
         (b"int f(void) {\n}\n}", Some(ParseFault::Syntax { line: 3 })),
     ];
     for (text, want) in rows {
-        assert!(rt; text.len() <= MAX_SOURCE_LEN);
+        assert!(rt; text.len() <= MAX_PROGRAM_BYTES as usize);
         assert_eq!(rt; answer(rt.alloc(), text), want, "{text:?}");
     }
 }
@@ -105,7 +106,7 @@ fn syntax_lines(rt: HostRuntime) {
         (b"int f(void) { g(\"a\"\n\"b\"); }", 2),
     ];
     for (text, line) in rows {
-        assert!(rt; text.len() <= MAX_SOURCE_LEN);
+        assert!(rt; text.len() <= MAX_PROGRAM_BYTES as usize);
         let want = Some(ParseFault::Syntax { line });
         assert_eq!(rt; answer(rt.alloc(), text), want, "{text:?}");
     }
@@ -180,7 +181,7 @@ fn depths(rt: HostRuntime) -> Result<(), Fail> {
         let greatest = u16::from(greatest);
         for (count, want) in [(greatest, None), (greatest + 1, deep)] {
             let text = nested(rt.alloc(), parts, count)?;
-            assert!(rt; text.len() <= MAX_SOURCE_LEN);
+            assert!(rt; text.len() <= MAX_PROGRAM_BYTES as usize);
             assert_eq!(rt; answer(rt.alloc(), &text), want, "{count}: {text:?}");
         }
     }
@@ -211,7 +212,7 @@ fn deep_lines(rt: HostRuntime) -> Result<(), Fail> {
     ];
     for (parts, count, line) in rows {
         let text = nested(rt.alloc(), parts, count)?;
-        assert!(rt; text.len() <= MAX_SOURCE_LEN);
+        assert!(rt; text.len() <= MAX_PROGRAM_BYTES as usize);
         let want = Some(ParseFault::Deep { line });
         assert_eq!(rt; answer(rt.alloc(), &text), want, "{count}: {parts:?}");
     }
@@ -222,7 +223,7 @@ fn deep_lines(rt: HostRuntime) -> Result<(), Fail> {
 #[test]
 fn many(rt: HostRuntime) -> Result<(), Fail> {
     let parens = vec![in rt.alloc(); b'('; 20_000]?;
-    assert!(rt; parens.len() <= MAX_SOURCE_LEN);
+    assert!(rt; parens.len() <= MAX_PROGRAM_BYTES as usize);
     assert_eq!(rt; answer(rt.alloc(), &parens), SYNTAX);
     let mut text = Vec::from_slice(rt.alloc(), b"int a")?;
     for _ in 0..5_000 {
@@ -230,7 +231,7 @@ fn many(rt: HostRuntime) -> Result<(), Fail> {
         text.push(b'a')?;
     }
     text.push(b';')?;
-    assert!(rt; text.len() <= MAX_SOURCE_LEN);
+    assert!(rt; text.len() <= MAX_PROGRAM_BYTES as usize);
     assert_eq!(rt; answer(rt.alloc(), &text), None);
     Ok(())
 }

@@ -1,13 +1,13 @@
 //! Steps along the tokens.
 
 ghost use Rattle.std.specs.Prelude.{◌≡◌, ◌<◌, length, max, IfOk, IfSome};
-ghost use Rattle.c_parser.specs.Operators.{prefix_of, suffix_of};
-ghost use Rattle.c_parser.specs.Reader as spec;
-ghost use Rattle.c_parser.specs.Reader.{Gives, Finds};
-ghost use Rattle.c_parser.specs.ReadExpr.{join_at, assignment_at, line_at, is_separator};
-ghost use Rattle.c_parser.specs.ReadStmt.{is_declr_end, after_key, expect_key, expect_name, name_at};
+ghost use Rattle.c_parser.specs.private.Operators.{prefix_of, suffix_of};
+ghost use Rattle.c_parser.specs.private.Reader as spec;
+ghost use Rattle.c_parser.specs.private.Reader.{ParseGives, Finds};
+ghost use Rattle.c_parser.specs.private.ReadExpr.{join_at, assignment_at, line_at, is_separator};
+ghost use Rattle.c_parser.specs.private.ReadStmt.{is_declr_end, after_key, expect_key, expect_name, name_at};
 
-use crate::fault::Refusal;
+use crate::fault::TokenFault;
 use crate::operators::{Join, Prefix, UNARY, assignment_of, join_of, prefix_of, suffix_of};
 use c_lexer::{Key, Mark, Tok, Token};
 use nm_base::{BinaryOp, Bytes, WantOfMemory};
@@ -21,17 +21,17 @@ pub fn higher(a: u8, b: u8) -> u8
 }
 
 /// The grammar is broken where these tokens begin.
-pub fn wrong(tokens: &[Token]) -> Refusal
-    ensures { result ≡ Refusal.Syntax (length tokens.now) }
+pub fn wrong(tokens: &[Token]) -> TokenFault
+    ensures { result ≡ TokenFault.Syntax (length tokens.now) }
 {
-    Refusal::Syntax { left: tokens.len() }
+    TokenFault::Syntax { left: tokens.len() }
 }
 
 /// The height is passed where these tokens begin.
-pub fn too_deep(tokens: &[Token]) -> Refusal
-    ensures { result ≡ Refusal.Deep (length tokens.now) }
+pub fn too_deep(tokens: &[Token]) -> TokenFault
+    ensures { result ≡ TokenFault.Deep (length tokens.now) }
 {
-    Refusal::Deep { left: tokens.len() }
+    TokenFault::Deep { left: tokens.len() }
 }
 
 /// The line of the next token.
@@ -56,8 +56,8 @@ pub fn after(tokens: &[Token], mark: Mark) -> Option<&[Token]>
 }
 
 /// The tokens after a mark that has to come next.
-pub fn expect(tokens: &[Token], mark: Mark) -> Result<&[Token], Refusal>
-    ensures value { Gives (λ x. x.now) result (spec.expect mark tokens.now) }
+pub fn expect(tokens: &[Token], mark: Mark) -> Result<&[Token], TokenFault>
+    ensures value { ParseGives (λ x. x.now) result (spec.expect mark tokens.now) }
     ensures shorter { IfOk result (λ x. length x.now < length tokens.now) }
 {
     match after(tokens, mark) {
@@ -158,8 +158,8 @@ pub fn after_key(tokens: &[Token], key: Key) -> Option<&[Token]>
 }
 
 /// The tokens after a keyword that has to come next.
-pub fn expect_key(tokens: &[Token], key: Key) -> Result<&[Token], Refusal>
-    ensures value { Gives (λ x. x.now) result (expect_key key tokens.now) }
+pub fn expect_key(tokens: &[Token], key: Key) -> Result<&[Token], TokenFault>
+    ensures value { ParseGives (λ x. x.now) result (expect_key key tokens.now) }
     ensures shorter { IfOk result (λ x. length x.now < length tokens.now) }
 {
     match after_key(tokens, key) {
@@ -182,8 +182,8 @@ pub fn name_at(alloc: Global, tokens: &[Token]) -> Result<Option<(Bytes, &[Token
 }
 
 /// The name that has to come next, and the tokens after it.
-pub fn expect_name(alloc: Global, tokens: &[Token]) -> Result<(Bytes, &[Token]), Refusal>
-    ensures value { Gives (λ x. (x.0, x.1.now)) result (expect_name tokens.now) }
+pub fn expect_name(alloc: Global, tokens: &[Token]) -> Result<(Bytes, &[Token]), TokenFault>
+    ensures value { ParseGives (λ x. (x.0, x.1.now)) result (expect_name tokens.now) }
     ensures shorter { IfOk result (λ x. length x.1.now < length tokens.now) }
 {
     match tokens {

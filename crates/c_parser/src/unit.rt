@@ -1,16 +1,17 @@
 //! Items and units.
 
 ghost use Rattle.std.specs.Prelude.{◌≡◌, ◌+◌, ◌<◌, ◌≤◌, [], length, max, IfOk, Some};
-ghost use Rattle.c_parser.specs.Reader.{Gives};
+ghost use Rattle.c_parser.specs.private.Reader.{ParseGives};
 ghost use Rattle.c_parser.specs.Unit as tree;
-ghost use Rattle.c_parser.specs.ReadStmt as list;
-ghost use Rattle.c_parser.specs.ReadExpr as expr;
-ghost use Rattle.c_parser.specs.ReadUnit as spec;
+ghost use Rattle.c_parser.specs.private.ReadStmt as list;
+ghost use Rattle.c_parser.specs.private.ReadExpr as expr;
+ghost use Rattle.c_parser.specs.private.ReadUnit as spec;
 
 use crate::decl::{declarations, type_at, unboxed};
-use crate::fault::Refusal;
+use crate::fault::TokenFault;
+use crate::inner::optional;
 use crate::operators::CONDITIONAL;
-use crate::stmt::{block, optional};
+use crate::stmt::block;
 use crate::tokens::{
     after, after_key, expect, expect_name, higher, line_at, name_at, separator_at, wrong,
 };
@@ -24,12 +25,12 @@ use std::alloc::Global;
 pub const MAX_HEIGHT: u8 = 64;
 
 /// The brackets of an array, if they come next: whether they do, the size and its height or 0.
-#[tactic(auto, unfolding(crate::specs::ReadUnit::array_at))]
+#[tactic(auto, unfolding(crate::specs::private::ReadUnit::array_at))]
 fn array_at(
     alloc: Global,
     tokens: &[Token],
-) -> Result<(bool, Option<Boxed<Expr>>, u8, &[Token]), Refusal>
-    ensures value { Gives (λ x. (((x.0, x.1), x.2), x.3.now)) result (spec.array_at tokens.now) }
+) -> Result<(bool, Option<Boxed<Expr>>, u8, &[Token]), TokenFault>
+    ensures value { ParseGives (λ x. (((x.0, x.1), x.2), x.3.now)) result (spec.array_at tokens.now) }
     ensures height { IfOk result (λ x. x.2 ≤ 64) }
     ensures shorter { IfOk result (λ x. length x.3.now ≤ length tokens.now) }
 {
@@ -41,15 +42,15 @@ fn array_at(
 }
 
 /// A parameter, after its type and its name.
-#[tactic(auto, unfolding(crate::specs::ReadUnit::param_of))]
+#[tactic(auto, unfolding(crate::specs::private::ReadUnit::param_of))]
 fn param_of(
     alloc: Global,
     of: Ctype,
     name: Option<Bytes>,
     line: u32,
     tokens: &[Token],
-) -> Result<(Param, u8, &[Token]), Refusal>
-    ensures value { Gives (λ x. ((x.0, x.1), x.2.now)) result (spec.param_of of name line tokens.now) }
+) -> Result<(Param, u8, &[Token]), TokenFault>
+    ensures value { ParseGives (λ x. ((x.0, x.1), x.2.now)) result (spec.param_of of name line tokens.now) }
     ensures height { IfOk result (λ x. x.1 ≤ 64) }
     ensures shorter { IfOk result (λ x. length x.2.now ≤ length tokens.now) }
 {
@@ -65,9 +66,9 @@ fn param_of(
 }
 
 /// A parameter, and the height of its size or 0.
-#[tactic(auto, unfolding(crate::specs::ReadUnit::parameter))]
-fn parameter(alloc: Global, tokens: &[Token]) -> Result<(Param, u8, &[Token]), Refusal>
-    ensures value { Gives (λ x. ((x.0, x.1), x.2.now)) result (spec.parameter tokens.now) }
+#[tactic(auto, unfolding(crate::specs::private::ReadUnit::parameter))]
+fn parameter(alloc: Global, tokens: &[Token]) -> Result<(Param, u8, &[Token]), TokenFault>
+    ensures value { ParseGives (λ x. ((x.0, x.1), x.2.now)) result (spec.parameter tokens.now) }
     ensures height { IfOk result (λ x. x.1 ≤ 64) }
     ensures shorter { IfOk result (λ x. length x.2.now < length tokens.now) }
 {
@@ -81,8 +82,11 @@ fn parameter(alloc: Global, tokens: &[Token]) -> Result<(Param, u8, &[Token]), R
 }
 
 /// At least one parameter, up to the closing parenthesis, and the greatest height.
-fn some_parameters(alloc: Global, tokens: &[Token]) -> Result<(Vec<Param>, u8, &[Token]), Refusal>
-    ensures value { Gives (λ x. ((x.0.items, x.1), x.2.now)) result
+fn some_parameters(
+    alloc: Global,
+    tokens: &[Token],
+) -> Result<(Vec<Param>, u8, &[Token]), TokenFault>
+    ensures value { ParseGives (λ x. ((x.0.items, x.1), x.2.now)) result
         (list.separated expr.is_separator spec.parameter (length tokens.now + 1) tokens.now) }
     ensures height { IfOk result (λ x. x.1 ≤ 64) }
     ensures shorter { IfOk result (λ x. length x.2.now < length tokens.now) }
@@ -105,9 +109,9 @@ fn some_parameters(alloc: Global, tokens: &[Token]) -> Result<(Vec<Param>, u8, &
 }
 
 /// The parameters up to the closing parenthesis, and the greatest height.
-#[tactic(auto, unfolding(crate::specs::ReadUnit::parameters))]
-fn parameters(alloc: Global, tokens: &[Token]) -> Result<(Vec<Param>, u8, &[Token]), Refusal>
-    ensures value { Gives (λ x. ((x.0.items, x.1), x.2.now)) result (spec.parameters tokens.now) }
+#[tactic(auto, unfolding(crate::specs::private::ReadUnit::parameters))]
+fn parameters(alloc: Global, tokens: &[Token]) -> Result<(Vec<Param>, u8, &[Token]), TokenFault>
+    ensures value { ParseGives (λ x. ((x.0.items, x.1), x.2.now)) result (spec.parameters tokens.now) }
     ensures height { IfOk result (λ x. x.1 ≤ 64) }
     ensures shorter { IfOk result (λ x. length x.2.now < length tokens.now) }
 {
@@ -129,15 +133,15 @@ fn all_named(params: &[Param]) -> bool
 }
 
 /// The body of a function, after its head.
-#[tactic(auto, unfolding(crate::specs::ReadUnit::body_of))]
+#[tactic(auto, unfolding(crate::specs::private::ReadUnit::body_of))]
 fn body_of(
     alloc: Global,
     head: Head,
     high: u8,
     tokens: &[Token],
-) -> Result<(Item, u8, &[Token]), Refusal>
+) -> Result<(Item, u8, &[Token]), TokenFault>
     requires { high ≤ 64 }
-    ensures value { Gives (λ x. ((x.0, x.1), x.2.now)) result (spec.body_of head high tokens.now) }
+    ensures value { ParseGives (λ x. ((x.0, x.1), x.2.now)) result (spec.body_of head high tokens.now) }
     ensures height { IfOk result (λ x. x.1 ≤ 64) }
     ensures shorter { IfOk result (λ x. length x.2.now < length tokens.now) }
 {
@@ -152,15 +156,15 @@ fn body_of(
 }
 
 /// A semicolon or a body, after a head.
-#[tactic(auto, unfolding(crate::specs::ReadUnit::headed))]
+#[tactic(auto, unfolding(crate::specs::private::ReadUnit::headed))]
 fn headed(
     alloc: Global,
     head: Head,
     high: u8,
     tokens: &[Token],
-) -> Result<(Item, u8, &[Token]), Refusal>
+) -> Result<(Item, u8, &[Token]), TokenFault>
     requires { high ≤ 64 }
-    ensures value { Gives (λ x. ((x.0, x.1), x.2.now)) result (spec.headed head high tokens.now) }
+    ensures value { ParseGives (λ x. ((x.0, x.1), x.2.now)) result (spec.headed head high tokens.now) }
     ensures height { IfOk result (λ x. x.1 ≤ 64) }
     ensures shorter { IfOk result (λ x. length x.2.now < length tokens.now) }
 {
@@ -171,15 +175,15 @@ fn headed(
 }
 
 /// A function, after the opening parenthesis of its head.
-#[tactic(auto, unfolding(crate::specs::ReadUnit::function_of))]
+#[tactic(auto, unfolding(crate::specs::private::ReadUnit::function_of))]
 fn function_of(
     alloc: Global,
     of: Option<Ctype>,
     name: Bytes,
     line: u32,
     tokens: &[Token],
-) -> Result<(Item, u8, &[Token]), Refusal>
-    ensures value { Gives (λ x. ((x.0, x.1), x.2.now)) result (spec.function_of of name line tokens.now) }
+) -> Result<(Item, u8, &[Token]), TokenFault>
+    ensures value { ParseGives (λ x. ((x.0, x.1), x.2.now)) result (spec.function_of of name line tokens.now) }
     ensures height { IfOk result (λ x. x.1 ≤ 64) }
     ensures shorter { IfOk result (λ x. length x.2.now < length tokens.now) }
 {
@@ -194,9 +198,9 @@ fn function_of(
 }
 
 /// Variables of a type, from the first name on.
-#[tactic(auto, unfolding(crate::specs::ReadUnit::vars_of))]
-fn vars_of(alloc: Global, of: Ctype, tokens: &[Token]) -> Result<(Item, u8, &[Token]), Refusal>
-    ensures value { Gives (λ x. ((x.0, x.1), x.2.now)) result (spec.vars_of (Some of) tokens.now) }
+#[tactic(auto, unfolding(crate::specs::private::ReadUnit::vars_of))]
+fn vars_of(alloc: Global, of: Ctype, tokens: &[Token]) -> Result<(Item, u8, &[Token]), TokenFault>
+    ensures value { ParseGives (λ x. ((x.0, x.1), x.2.now)) result (spec.vars_of (Some of) tokens.now) }
     ensures height { IfOk result (λ x. x.1 ≤ 64) }
     ensures shorter { IfOk result (λ x. length x.2.now < length tokens.now) }
 {
@@ -205,13 +209,13 @@ fn vars_of(alloc: Global, of: Ctype, tokens: &[Token]) -> Result<(Item, u8, &[To
 }
 
 /// An item, after its type or after `void`, of which there are functions alone.
-#[tactic(auto, unfolding(crate::specs::ReadUnit::item_of, crate::specs::ReadUnit::vars_of))]
+#[tactic(auto, unfolding(crate::specs::private::ReadUnit::item_of, crate::specs::private::ReadUnit::vars_of))]
 fn item_of(
     alloc: Global,
     of: Option<Ctype>,
     tokens: &[Token],
-) -> Result<(Item, u8, &[Token]), Refusal>
-    ensures value { Gives (λ x. ((x.0, x.1), x.2.now)) result (spec.item_of of tokens.now) }
+) -> Result<(Item, u8, &[Token]), TokenFault>
+    ensures value { ParseGives (λ x. ((x.0, x.1), x.2.now)) result (spec.item_of of tokens.now) }
     ensures height { IfOk result (λ x. x.1 ≤ 64) }
     ensures shorter { IfOk result (λ x. length x.2.now < length tokens.now) }
 {
@@ -227,9 +231,9 @@ fn item_of(
 }
 
 /// The item that comes next, and its height.
-#[tactic(auto, unfolding(crate::specs::ReadUnit::read_item))]
-fn item(alloc: Global, tokens: &[Token]) -> Result<(Item, u8, &[Token]), Refusal>
-    ensures value { Gives (λ x. ((x.0, x.1), x.2.now)) result (spec.read_item tokens.now) }
+#[tactic(auto, unfolding(crate::specs::private::ReadUnit::read_item))]
+fn item(alloc: Global, tokens: &[Token]) -> Result<(Item, u8, &[Token]), TokenFault>
+    ensures value { ParseGives (λ x. ((x.0, x.1), x.2.now)) result (spec.read_item tokens.now) }
     ensures height { IfOk result (λ x. x.1 ≤ 64) }
     ensures shorter { IfOk result (λ x. length x.2.now < length tokens.now) }
 {
@@ -243,8 +247,8 @@ fn item(alloc: Global, tokens: &[Token]) -> Result<(Item, u8, &[Token]), Refusal
 }
 
 /// All items, and the greatest height.
-pub fn items(alloc: Global, tokens: &[Token]) -> Result<(Vec<Item>, u8), Refusal>
-    ensures { Gives (λ x. ((x.0.items, x.1), [])) result (spec.read_items tokens.now) }
+pub fn items(alloc: Global, tokens: &[Token]) -> Result<(Vec<Item>, u8), TokenFault>
+    ensures { ParseGives (λ x. ((x.0.items, x.1), [])) result (spec.read_items tokens.now) }
 {
     let mut list = Vec::new(alloc);
     let mut highest = 0;

@@ -5,14 +5,14 @@ use Rattle.nm_base.specs.declared.kind.Kind.{Kind}
 use Rattle.nm_base.specs.Message.{Message}
 use Rattle.nm_base.specs.Scripts.{Goes}
 use Rattle.c_tree.specs.State.{State, Status, Able, Outcome, Done, Stopped, then_on}
-use Rattle.c_tree.specs.Play.{Setting, next, run_of}
+use Rattle.c_tree.specs.Play.{PlaySetting, next, run_of}
 use Rattle.c_tree.proofs.Longer.{state_of, Leads, leads_refl, leads_trans}
 use Rattle.stack_code.specs.Code.{Placed, Code, steps_of}
 use Rattle.stack_code.specs.Machine.{Control, act_if_any, shown, step, exec, run_code}
 use Rattle.stack_code.proofs.Law.{act_grows}
-use Rattle.c_compile.specs.Correct.{StandsFor}
+use Rattle.c_compile.specs.Correct.{CodeStandsFor}
 use Rattle.proc_machine.proofs.Nexts.{no_events}
-use Rattle.c_process.specs.Laws.{run_on, StopsAt}
+use Rattle.c_process.specs.private.Laws.{run_on, StopsAt}
 use Rattle.c_process.proofs.Scripts.{next_goes}
 
 module _ (code : Code) (count me : ℕ) where
@@ -54,7 +54,7 @@ module _ (code : Code) (count me : ℕ) where
       no_events l.made (state_of o).events s l.events (omega (arith, z, l.left))
 
 -- where a run with one more event has made it, it is the script's next
-pub event_next : (set : Setting) (code : Code) (stands : StandsFor set code) (inputs : List Message) (k n : ℕ) (s : State) (o : Outcome Control) (first : Kind) (events : List Kind)
+pub event_next : (set : PlaySetting) (code : Code) (stands : CodeStandsFor set code) (inputs : List Message) (k n : ℕ) (s : State) (o : Outcome Control) (first : Kind) (events : List Kind)
     → run_of set inputs k ≡ Stopped Able s → run_code code set.count set.me inputs (suc k) n ≡ o → (state_of o).events ≡ first ∷ events → (state_of o).left ≡ 0 → next set inputs k ≡ Goes first
 event_next set code stands inputs k n s o first events e run made left =
     let a = stands inputs (suc k) in

@@ -1,24 +1,21 @@
 -- The line at which a process is.
-use Rattle.std.proofs.Common.{◌≡◌, ℕ, suc, List, [], ◌∷◌, length, Some, refl, sym, ap, ◌∙◌, arith}
-use Rattle.std.specs.Prelude.{slice_get}
+use Rattle.std.proofs.Common.{◌≡◌, ℕ, suc, List, ◌∷◌, length, refl, ap, ◌∙◌}
 use Rattle.nm_base.specs.declared.kind.Kind.{Kind}
 use Rattle.nm_base.specs.declared.kind.Kind.TheVariants as kind
 use Rattle.nm_base.specs.Message.{Message}
 use Rattle.nm_base.specs.Scripts.{Goes}
 use Rattle.c_tree.specs.declared.program.Program.{Program}
 use Rattle.c_tree.specs.State.{Frame, State, Able, Wants, Over, Outcome, Done, Stopped}
-use Rattle.c_tree.specs.Play.{Setting, next, run_of}
+use Rattle.c_tree.specs.Play.{PlaySetting, next, run_of}
 use Rattle.c_tree.proofs.Longer.{state_of}
 use Rattle.stack_code.specs.Machine.{Control, run_code}
-use Rattle.c_compile.specs.Correct.{StandsFor}
-use Rattle.proc_machine.specs.declared.machine.MachineFrame.{MachineFrame}
+use Rattle.c_compile.specs.Correct.{CodeStandsFor}
 use Rattle.proc_machine.specs.declared.pause.Pause.{Pause}
 use Rattle.proc_machine.specs.declared.pause.Pause.TheVariants as pause
 use Rattle.proc_machine.specs.Pauses.{status_of, pause_of}
-use Rattle.proc_machine.specs.Machines.{HasMade, MakesNext, frame_seen, places_seen}
-use Rattle.proc_machine.specs.Machines as machine
+use Rattle.proc_machine.specs.Machines.{MachineSetting, HasMade, MakesNext}
 use Rattle.c_process.specs.Shown.{line_in, line_of}
-use Rattle.c_process.specs.Laws.{process_of, next_is}
+use Rattle.c_process.specs.private.Laws.{process_of, next_is}
 use Rattle.c_process.proofs.Events.{event_next}
 
 -- the line at a pause: that of the Line that comes next, or else of the innermost frame
@@ -42,8 +39,8 @@ made_left : (o : Outcome Control) (events : List Kind) (p : Pause) → HasMade e
 made_left (Done c s) events p h = h.none_left
 made_left (Stopped status s) events p h = h.none_left
 
-module _ (p : Program) (m : machine.Setting) (stands : StandsFor (process_of p m) m.code) (inputs : List Message) (events : List Kind) (s : State) (frames : List Frame) (without : ℕ) where
-  abbrev set : Setting
+module _ (p : Program) (m : MachineSetting) (stands : CodeStandsFor (process_of p m) m.code) (inputs : List Message) (events : List Kind) (s : State) (frames : List Frame) (without : ℕ) where
+  abbrev set : PlaySetting
   set = process_of p m
 
   abbrev k : ℕ
@@ -63,16 +60,6 @@ module _ (p : Program) (m : machine.Setting) (stands : StandsFor (process_of p m
   line_next n r h = line_made n r h
 
 -- ---- the innermost frame
-
--- without a frame of the machine there is none
-pub no_frame : (c : Control) (fs : List Frame) (without : ℕ) → length (places_seen c fs) ≡ 0 → line_in fs without ≡ without
-no_frame c [] without h = refl
-no_frame c (f ∷ fs) without h = absurd (omega (arith, h))
-
--- the first frame has the line of the innermost
-pub first_frame : (c : Control) (fs : List Frame) (without : ℕ) (r : MachineFrame) → slice_get (places_seen c fs) 0 ≡ Some r → r.line ≡ line_in fs without
-first_frame c [] without r h = cc
-first_frame c (f ∷ fs) without r h = let same : frame_seen c.function c.pc f ≡ r = cc in sym (ap (λ (x : MachineFrame). x.line) same)
 
 -- where no Line comes next it is that of the innermost frame
 pub line_else : (n : Pause) (fs : List Frame) (without : ℕ) → ((line : ℕ) → n ≡ pause.Line line → ⊥) → line_at n fs without ≡ line_in fs without

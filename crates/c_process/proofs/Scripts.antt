@@ -4,12 +4,12 @@ use Rattle.nm_base.specs.declared.kind.Kind.{Kind}
 use Rattle.nm_base.specs.Message.{Message}
 use Rattle.nm_base.specs.Scripts.{Goes}
 use Rattle.c_tree.specs.State.{State, Status, Able, Stopped}
-use Rattle.c_tree.specs.Play.{Setting, played_of, next_made, next, run_of}
+use Rattle.c_tree.specs.Play.{PlaySetting, played_of, next_made, next, run_of}
 use Rattle.stack_code.specs.Code.{Code}
-use Rattle.c_compile.specs.Correct.{StandsFor}
-use Rattle.c_process.specs.Laws.{next_is}
+use Rattle.c_compile.specs.Correct.{CodeStandsFor}
+use Rattle.c_process.specs.private.Laws.{next_is}
 
-module _ (set : Setting) (code : Code) (stands : StandsFor set code) where
+module _ (set : PlaySetting) (code : Code) (stands : CodeStandsFor set code) where
   pub next_goes : (inputs : List Message) (k : ℕ) (s s' : State) (status' : Status) (kind : Kind) (events : List Kind) → run_of set inputs k ≡ Stopped Able s
       → run_of set inputs (suc k) ≡ Stopped status' s' → s'.events ≡ kind ∷ events → next set inputs k ≡ Goes kind
   next_goes inputs k s s' status' kind events e f g =

@@ -4,8 +4,8 @@ use Rattle.nm_base.specs.Message.{Message}
 use Rattle.nm_base.specs.Scripts.{Script}
 use Rattle.c_tree.specs.declared.program.Program.{Program}
 use Rattle.c_compile.specs.StmtCode.{program_code}
-use Rattle.stack_code.specs.View.{code_of}
-use Rattle.proc_machine.specs.Machines.{setting_of}
+use Rattle.stack_code.specs.View.{seen_code}
+use Rattle.proc_machine.specs.Machines.{machine_setting}
 use Rattle.c_process.specs.declared.process.CProc.{CProc}
 use Rattle.c_process.specs.Standing.{IsCodeOf}
 use Rattle.c_process.specs.Shown.{look_after}
@@ -19,5 +19,5 @@ CompiledIsCode = (p : Program) → IsCodeOf p (program_code p.globals p.function
 abbrev pub LooksArePlayed : Type 0
 LooksArePlayed =
     (x : CProc) (p : Program) (s : Script) (letters : List Message) (k : ℕ)
-    → IsCodeOf p (code_of x.code.now) → Follows x.machine x.look s letters k × (k ≡ x.count)
-    → x.look ≡ look_after p (setting_of x.machine).count x.me.no letters k
+    → IsCodeOf p (seen_code x.code.now) → Follows x.machine x.look s letters k × (k ≡ x.count)
+    → x.look ≡ look_after p (machine_setting x.machine).count x.me.no letters k

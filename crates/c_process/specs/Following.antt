@@ -10,7 +10,7 @@ use Rattle.processes.specs.declared.proc.Look.TheVariants as look
 use Rattle.proc_machine.specs.declared.machine.Machine.{Machine}
 use Rattle.proc_machine.specs.declared.pause.Pause.{Pause}
 use Rattle.proc_machine.specs.declared.pause.Pause.TheVariants as pause
-use Rattle.proc_machine.specs.Machines.{StandsFor, setting_of, next_of}
+use Rattle.proc_machine.specs.Machines.{MachineStandsFor, machine_setting, next_of}
 use Rattle.proc_machine.specs.Pauses.{status_of}
 use Rattle.c_process.specs.Standing.{IsCodeOf}
 use Rattle.c_process.specs.Shown.{look_of}
@@ -32,12 +32,12 @@ pub record IsAfter (m : Machine) (look : Look) (letters : List Message) (k : ℕ
   -- the events made, the last one first
   pub events : List Kind
   pub count : length events ≡ k
-  pub stands : StandsFor m letters events
+  pub stands : MachineStandsFor m letters events
   pub looks : look ≡ look_of (status_of (next_of m)) events
 
 -- the machine is at this point of the script of a program whose code it runs
 pub record Follows (m : Machine) (look : Look) (s : Script) (letters : List Message) (k : ℕ) : Type 0 where
   pub program : Program
-  pub script : s ≡ script_of program (setting_of m).count (setting_of m).me.no
-  pub code : IsCodeOf program (setting_of m).code
+  pub script : s ≡ script_of program (machine_setting m).count (machine_setting m).me.no
+  pub code : IsCodeOf program (machine_setting m).code
   pub after : IsAfter m look letters k

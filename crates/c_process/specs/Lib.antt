@@ -1,5 +1,5 @@
 pub mod Standing
 pub mod Shown
 pub mod Following
-pub mod Laws
 pub mod Compiled
+pub mod private

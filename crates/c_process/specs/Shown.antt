@@ -6,7 +6,7 @@ use Rattle.nm_base.specs.Message.{Message}
 use Rattle.nm_base.specs.Scripts.{Next, Goes}
 use Rattle.c_tree.specs.declared.program.Program.{Program}
 use Rattle.c_tree.specs.State.{Frame, Status, Able, Wants, Over}
-use Rattle.c_tree.specs.Play.{Played, setting_of, play, next}
+use Rattle.c_tree.specs.Play.{Played, play_setting, play, next}
 use Rattle.processes.specs.declared.proc.Look.{Look}
 use Rattle.processes.specs.declared.proc.Look.TheVariants as look
 use Rattle.c_process.specs.Standing.{main_line}
@@ -35,7 +35,7 @@ line_of next frames without = line_in frames without
 module _ (p : Program) (n me : ℕ) (letters : List Message) (k : ℕ) where
   -- its state
   abbrev pub played_after : Played
-  played_after = play (setting_of p n me) letters k
+  played_after = play (play_setting p n me) letters k
 
   -- what it printed
   abbrev pub output_after : List ℕ
@@ -45,6 +45,7 @@ module _ (p : Program) (n me : ℕ) (letters : List Message) (k : ℕ) where
   abbrev pub look_after : Look
   look_after = look_of played_after.status played_after.state.events
 
-  -- the line at which it is: of its next event where that is a Line, or else of the innermost frame, or without one of main's name
+  -- the line at which it is: of its next event where that is a Line, or else of the innermost frame, or without one of
+  -- main's name
   abbrev pub line_after : ℕ
-  line_after = line_of (next (setting_of p n me) letters k) played_after.state.frames (main_line p)
+  line_after = line_of (next (play_setting p n me) letters k) played_after.state.frames (main_line p)

@@ -1,9 +1,9 @@
 -- The code of a program.
 use Rattle.std.specs.Prelude.{◌≡◌, ℕ, option_map, slice_get, unwrap_or}
 use Rattle.c_tree.specs.declared.program.Program.{Program}
-use Rattle.c_tree.specs.Play.{setting_of}
+use Rattle.c_tree.specs.Play.{play_setting}
 use Rattle.stack_code.specs.Code.{Code}
-use Rattle.c_compile.specs.Correct.{StandsFor}
+use Rattle.c_compile.specs.Correct.{CodeStandsFor}
 
 -- the line of main's name
 abbrev pub main_line : Program → ℕ
@@ -15,5 +15,5 @@ main_line_of code = unwrap_or (option_map (λ f. f.line) (slice_get code.functio
 
 -- the code stands for every process of the program
 pub record IsCodeOf (p : Program) (code : Code) : Type 0 where
-  pub stands : (count me : ℕ) → StandsFor (setting_of p count me) code
+  pub stands : (count me : ℕ) → CodeStandsFor (play_setting p count me) code
   pub main : main_line_of code ≡ main_line p

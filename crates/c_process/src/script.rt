@@ -8,16 +8,16 @@ use std::alloc::Global;
 impl<'c> Proc for CProc<'c> {
     ghost use Rattle.std.specs.Prelude.{◌≡◌, ℕ};
     ghost use Rattle.stack_code.specs.Code.{Code};
-    ghost use Rattle.stack_code.specs.View.{code_of};
-    ghost use Rattle.proc_machine.specs.Machines.{setting_of};
+    ghost use Rattle.stack_code.specs.View.{seen_code};
+    ghost use Rattle.proc_machine.specs.Machines.{machine_setting};
     ghost use Rattle.c_process.specs.Following.{Follows};
-    ghost use Rattle.c_process.specs.Laws.{follows_lawful, follows_shows};
+    ghost use Rattle.c_process.specs.private.Laws.{follows_lawful, follows_shows};
 
     ghost stands_for = { λ x s letters k. Follows x.machine x.look s letters k × (k ≡ x.count) };
 
     ghost Origin = { Code × ℕ };
 
-    ghost origin_of = { λ x. (code_of x.code.now, (setting_of x.machine).count) };
+    ghost origin_of = { λ x. (seen_code x.code.now, (machine_setting x.machine).count) };
 
     ghost name_of = { λ x. x.me };
 

@@ -12,8 +12,8 @@ use Rattle.nm_base.specs.Message.{Message}
 use Rattle.nm_base.specs.Scripts.{Next, Goes, Script, Step, Made, Took, kind_in, message_in, next_after, StepFits, IsHistory, is_send, is_last, IsLawful}
 use Rattle.nm_base.specs.Scripts as scripts
 use Rattle.c_tree.specs.State.{State, Able, Wants, Over, Outcome, Done, Stopped}
-use Rattle.c_tree.specs.Law.{AbleGoesOn, HistoriesArePlayed, ScriptsAreLawful}
-use Rattle.c_tree.specs.Play.{Setting, setting_of, Played, played_of, next_made, next_by, next, script_in, run_of, play}
+use Rattle.c_tree.specs.Laws.{AbleGoesOn, HistoriesArePlayed, ScriptsAreLawful}
+use Rattle.c_tree.specs.Play.{PlaySetting, play_setting, Played, played_of, next_made, next_by, next, script_in, run_of, play}
 use Rattle.c_tree.proofs.Longer.{state_of, sends_in, Counted, CountedAfter, Fits, Extends, Went}
 use Rattle.c_tree.proofs.Plays.{played_events, played_state, run_leads, run_counts, run_extends}
 
@@ -153,7 +153,7 @@ over_by later (Stopped (Wants set) s) c l = let quiet = c.quiet in cc
 
 -- ---- histories
 
-module _ (set : Setting) where
+module _ (set : PlaySetting) where
   abbrev taken : List Step → List Message
   taken h = filter_map message_in h
 
@@ -253,4 +253,4 @@ able_goes_on set inputs k e =
     able_by (run_of set inputs k) (run_of set inputs (suc k)) e x
 
 pub scripts_are_lawful : ScriptsAreLawful
-scripts_are_lawful program count me = lawful (setting_of program count me)
+scripts_are_lawful program count me = lawful (play_setting program count me)

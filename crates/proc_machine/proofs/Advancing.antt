@@ -1,10 +1,9 @@
 -- A step leads from where an execution stands in valid code to where it stands again.
 use Rattle.std.proofs.Common.{◌≡◌, ℕ, zero, suc, ◌+◌, ◌-◌, ◌<◌, ◌≤◌, ◌^◌, ◌⊎◌, inl, ⊎_elim, Bool, true, false, List, [], ◌∷◌, length, drop, Some, refl, sym, ap, ◌∙◌, subst, arith}
 use Rattle.std.specs.Prelude.{IsTrue, ◌&&◌, slice_get, nat_le, nat_lt}
-use Rattle.nm_base.specs.declared.kind.Kind.{Kind}
 use Rattle.nm_base.specs.declared.kind.Kind.TheVariants.{Ended}
 use Rattle.nm_base.specs.Word.{unary, binary, as_int}
-use Rattle.c_tree.specs.State.{State, Outcome, Done, Stopped, then_on, ◌>>=◌, pure, happen_by, stop_over, or_fault, line_event}
+use Rattle.c_tree.specs.State.{State, Done, ◌>>=◌, pure, or_fault, line_event}
 use Rattle.c_tree.specs.Print.{printed}
 use Rattle.c_tree.specs.Expr.{choice, is_true, load, store, element, send_words, receive, of_letter, word_of, print, leave}
 use Rattle.stack_code.specs.declared.instr.Instr.{Instr}
@@ -15,23 +14,15 @@ use Rattle.stack_code.specs.Machine.{Caller, Control, top, below, popped, local_
 use Rattle.stack_code.specs.Valid.{Operand, Value, Place, ArrayPlace, ArrayLength, IsSound, finds, follows, follows_if_any, names_fit}
 use Rattle.stack_code.specs.Valid.{go_on, pushed, taking, twice, swapped, is_single, values, operands_by, operands_of}
 use Rattle.stack_code.specs.Valid as valid
-use Rattle.proc_machine.specs.Ready.{param_words_by}
-use Rattle.proc_machine.specs.Heights.{takes, pushes, high}
-use Rattle.proc_machine.specs.View.{Small, gives}
-use Rattle.proc_machine.specs.Sound.{IsOf, AreOf, Wait, IsSoundAt}
+use Rattle.stack_code.proofs.Forward.{then_done, never_done}
+use Rattle.proc_machine.specs.private.Ready.{param_words_by}
+use Rattle.proc_machine.specs.private.Heights.{takes, pushes, high}
+use Rattle.proc_machine.specs.private.Moves.{Small, gives}
+use Rattle.proc_machine.specs.private.Sound.{IsOf, AreOf, Wait, IsSoundAt}
 use Rattle.std.proofs.lemmas.List.{length-drop}
 use Rattle.proc_machine.proofs.Calling.{popped_are}
 use Rattle.proc_machine.proofs.Levels.{leads_on, on, on_test, ahead, ahead_test}
 use Rattle.proc_machine.proofs.OfKinds.{both, taken, taken_are, tops_length, pushed_length, none_left, below_is, below_two, below_length}
-
--- where a run's end leads
-then_done : {A : Type 0} (o : Outcome A) (to : A → Control) (d : Control) (u : State) → then_on o (λ a. pure (to a)) ≡ Done d u → (a : A) × (d ≡ to a)
-then_done (Done a s) to d u e = let same : to a ≡ d = cc in (a, sym same)
-then_done (Stopped status s) to d u e = cc
-
-never_done : (n : ℕ) (kind : Kind) (s : State) (d : Control) (u : State) → then_on (happen_by n kind s) (λ _. stop_over {A = Control}) ≡ Done d u → ⊥
-never_done zero kind s d u e = cc
-never_done (suc n) kind s d u e = cc
 
 popped_rest : (n : ℕ) (xs words : List ℕ) → n ≤ length xs → (popped n xs words).1 ≡ drop n xs
 popped_rest n xs words h = ap (λ (p : List ℕ × List ℕ). p.1) (popped_are n xs words h)

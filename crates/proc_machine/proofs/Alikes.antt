@@ -10,11 +10,13 @@ use Rattle.stack_code.specs.Machine.{filled, blocks_of, step}
 use Rattle.proc_machine.specs.declared.execution.Execution.{Execution}
 use Rattle.proc_machine.specs.declared.pause.Pause.{Pause}
 use Rattle.proc_machine.specs.declared.pause.Pause.TheVariants as pause
-use Rattle.proc_machine.specs.Pauses.{status_of, pause_by}
+use Rattle.proc_machine.specs.Pauses.{status_of}
+use Rattle.proc_machine.specs.private.Outcomes.{pause_by}
 use Rattle.proc_machine.specs.View.{control_of, data_with}
-use Rattle.proc_machine.specs.Sound.{Holds}
-use Rattle.proc_machine.specs.Run.{StandsBefore, IsLastThere}
-use Rattle.proc_machine.specs.Standing.{IsFresh, IsKept, shown_state, stand, ComesTo}
+use Rattle.proc_machine.specs.private.Sound.{Holds}
+use Rattle.proc_machine.specs.private.Run.{StandsBefore, IsLastThere}
+use Rattle.proc_machine.specs.Standing.{shown_state, stand, ComesTo}
+use Rattle.proc_machine.specs.private.Kept.{IsFresh, IsKept}
 
 module _ (code : Code) (count me : ℕ) (a : Execution) (o : Vec ℕ Global) (same : o.items ≡ a.output.items) where
   abbrev b : Execution

@@ -7,12 +7,13 @@ use Rattle.stack_code.specs.Machine.{with_blocks, later_blocks, outer_blocks, ru
 use Rattle.proc_machine.specs.declared.callers.Caller.{Caller as KeptCaller}
 use Rattle.proc_machine.specs.declared.execution.Execution.{Execution}
 use Rattle.proc_machine.specs.declared.pause.Pause.{Pause}
-use Rattle.proc_machine.specs.Stacked.{lower}
+use Rattle.proc_machine.specs.Divided.{lower}
 use Rattle.proc_machine.specs.View.{callers_of, control_of, data_with, frame_in, frames_in}
-use Rattle.proc_machine.specs.Sound.{Holds}
-use Rattle.proc_machine.specs.Run.{Reaches, StandsBefore}
-use Rattle.proc_machine.specs.Standing.{IsKept, ComesTo, shown_state}
-use Rattle.proc_machine.specs.Start.{IsCalled}
+use Rattle.proc_machine.specs.private.Sound.{Holds}
+use Rattle.proc_machine.specs.private.Run.{Reaches, StandsBefore}
+use Rattle.proc_machine.specs.Standing.{ComesTo, shown_state}
+use Rattle.proc_machine.specs.private.Kept.{IsKept}
+use Rattle.proc_machine.specs.private.Start.{IsCalled}
 use Rattle.proc_machine.specs.Machines.{frame_seen, callers_seen, places_seen}
 use Rattle.proc_machine.proofs.Standings.{run_on, not_done, stand_is}
 use Rattle.proc_machine.proofs.Onwards as onwards

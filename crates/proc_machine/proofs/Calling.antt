@@ -8,6 +8,7 @@ use Rattle.std.proofs.lemmas.Bool.{ltb-true, ltb-false, leb-true, leb-false}
 use Rattle.nm_base.specs.declared.kind.Kind.{Kind}
 use Rattle.nm_base.specs.declared.kind.FaultCause.TheVariants.{DepthFull, DataFull}
 use Rattle.nm_base.specs.declared.kind.Kind.TheVariants.{Faulted}
+use Rattle.nm_base.specs.declared.limits.TheConstants.{MAX_DATA_WORDS}
 use Rattle.c_tree.specs.State.{State, Outcome, Done, Stopped, Able, Over, Run, then_on}
 use Rattle.c_tree.specs.Expr.{demand}
 use Rattle.stack_code.specs.declared.code.FunctionFrame.{FunctionFrame}
@@ -19,10 +20,11 @@ use Rattle.stack_code.specs.Machine.{Control, popped, called, new_frame}
 use Rattle.proc_machine.specs.declared.execution.Execution.{Execution}
 use Rattle.proc_machine.specs.declared.callers.Caller.{Caller as KeptCaller}
 use Rattle.proc_machine.specs.declared.pause.Pause.TheVariants.{Fault}
-use Rattle.proc_machine.specs.Stacked.{upper, lower}
-use Rattle.proc_machine.specs.Pauses.{pause_by}
-use Rattle.proc_machine.specs.View.{callers_of, frames_in, control_of, data_with, Pauses, opened, frame_words_by, Keeps}
-use Rattle.proc_machine.specs.Ready.{param_words_by}
+use Rattle.proc_machine.specs.Divided.{upper, lower}
+use Rattle.proc_machine.specs.private.Outcomes.{pause_by}
+use Rattle.proc_machine.specs.View.{callers_of, frames_in, control_of, data_with}
+use Rattle.proc_machine.specs.private.Moves.{Pauses, opened, frame_words_by, Keeps}
+use Rattle.proc_machine.specs.private.Ready.{param_words_by}
 use Rattle.proc_machine.proofs.Upper.{take_front, drop_front}
 
 pub popped_are : (n : ℕ) (stack words : List ℕ) → n ≤ length stack → popped n stack words ≡ (reverse (take n stack) ++ words, drop n stack)
@@ -63,7 +65,7 @@ module _ (e : Execution) where
 
   module _ (size : ℕ) where
     abbrev after : (Unit {0} → Run (Unit {0})) → Unit {0} → Run (Unit {0})
-    after k _ s = then_on (demand (nat_le (length s.words + size) 65536) DataFull s) k
+    after k _ s = then_on (demand (nat_le (length s.words + size) MAX_DATA_WORDS) DataFull s) k
 
     fails_stops : (d : Bool) → d ≡ false → (k : Unit {0} → Run (Unit {0})) (j : Unit {0} → Run Control) (events : List Kind)
         → then_on (then_on (demand d DataFull (at events 0)) k) j ≡ Stopped Able (at events 0)
@@ -86,7 +88,7 @@ module _ (e : Execution) where
     holds_goes false h k j events = cc
 
     past_depth : (b : Bool) → b ≡ true → (k : Unit {0} → Run (Unit {0})) (j : Unit {0} → Run Control) (events : List Kind) (left : ℕ)
-        → then_on (then_on (demand b DepthFull (at events left)) (after k)) j ≡ then_on (then_on (demand (nat_le (length e.words + size) 65536) DataFull (at events left)) k) j
+        → then_on (then_on (demand b DepthFull (at events left)) (after k)) j ≡ then_on (then_on (demand (nat_le (length e.words + size) MAX_DATA_WORDS) DataFull (at events left)) k) j
     past_depth true h k j events left = refl
     past_depth false h k j events left = cc
 
@@ -94,7 +96,7 @@ module _ (e : Execution) where
   depth = nat_lt (length (data_with e [] 0).frames) 256
 
   abbrev fits : ℕ → Bool
-  fits size = nat_le (length e.words + size) 65536
+  fits size = nat_le (length e.words + size) MAX_DATA_WORDS
 
   frames_length : (ks : List KeptCaller) → length (frames_in ks) ≡ length ks
   frames_length [] = refl
@@ -114,19 +116,19 @@ module _ (e : Execution) where
       by true t = t
       by false t = absurd (omega (arith, h, ltb-false (suc (length (frames_in e.calls.callers))) 256 t, frames_length e.calls.callers))
 
-  pub is_full : (size : ℕ) → 65536 < length e.words + size → fits size ≡ false
+  pub is_full : (size : ℕ) → MAX_DATA_WORDS < length e.words + size → fits size ≡ false
   is_full size h = by (fits size) refl
     where
       by : (b : Bool) → fits size ≡ b → fits size ≡ false
       by false t = t
-      by true t = absurd (omega (arith, h, leb-true (length e.words + size) 65536 t))
+      by true t = absurd (omega (arith, h, leb-true (length e.words + size) MAX_DATA_WORDS t))
 
-  pub has_space : (size : ℕ) → length e.words + size ≤ 65536 → fits size ≡ true
+  pub has_space : (size : ℕ) → length e.words + size ≤ MAX_DATA_WORDS → fits size ≡ true
   has_space size h = by (fits size) refl
     where
       by : (b : Bool) → fits size ≡ b → fits size ≡ true
       by true t = t
-      by false t = absurd (omega (arith, h, leb-false (length e.words + size) 65536 t))
+      by false t = absurd (omega (arith, h, leb-false (length e.words + size) MAX_DATA_WORDS t))
 
   -- a call's frame, with these operands left to the caller above those of its callers, and these words first
   abbrev made : ℕ → FunctionCode → List Kind → List ℕ → List ℕ → List ℕ → Outcome Control
@@ -186,8 +188,8 @@ size_is None f h = cc
 size_is (Some g) f h = let same : g.frame_words ≡ f.frame_words = cc in same
 
 pub call_keeps : (code : Code) (number start : ℕ) (f : FunctionFrame) (old new : Execution) → start ≡ start_of code number → new ≡ opened number start f old → option_map frame_of (slice_get code.functions number) ≡ Some f
-    → length old.words + f.frame_words ≤ 65536 → Keeps code (instr.Call number) old new
+    → length old.words + f.frame_words ≤ MAX_DATA_WORDS → Keeps code (instr.Call number) old new
 call_keeps code number start f old new begins e is fits =
     let size = size_is (slice_get code.functions number) f is in
-    let inner : length old.words + frame_words_by (slice_get code.functions number) ≤ 65536 = omega (arith, size, fits) in
+    let inner : length old.words + frame_words_by (slice_get code.functions number) ≤ MAX_DATA_WORDS = omega (arith, size, fits) in
     subst (λ x. Keeps code (instr.Call number) old x) (sym e) (record { small = tt; height = refl; frames = λ h. ((inner, begins), (h.0, h.1)) })

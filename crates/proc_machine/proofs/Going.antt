@@ -6,20 +6,21 @@ use Rattle.nm_base.specs.declared.kind.Kind.TheVariants as kind
 use Rattle.nm_base.specs.declared.letter.Letter.{Letter}
 use Rattle.nm_base.specs.Message.{Message, message_of}
 use Rattle.stack_code.specs.Code.{Code, steps_of}
-use Rattle.stack_code.specs.View.{code_of}
+use Rattle.stack_code.specs.View.{seen_code}
 use Rattle.proc_machine.specs.declared.execution.Execution.{Execution}
 use Rattle.proc_machine.specs.declared.machine.Machine.{Machine}
 use Rattle.proc_machine.specs.declared.pause.Pause.{Pause}
-use Rattle.proc_machine.specs.Sound.{Holds}
-use Rattle.proc_machine.specs.Run.{StandsBefore, After, Accepts, waits_at}
-use Rattle.proc_machine.specs.Standing.{IsKept, ComesTo}
-use Rattle.proc_machine.specs.Machines.{StandsFor}
+use Rattle.proc_machine.specs.private.Sound.{Holds}
+use Rattle.proc_machine.specs.private.Run.{StandsBefore, After, Accepts, waits_at}
+use Rattle.proc_machine.specs.Standing.{ComesTo}
+use Rattle.proc_machine.specs.private.Kept.{IsKept}
+use Rattle.proc_machine.specs.Machines.{MachineStandsFor}
 use Rattle.proc_machine.proofs.Onwards.{leads, kept_on, after_comes, accepts_comes}
 use Rattle.proc_machine.proofs.Knows.{held, waits_is}
 
 module _ (m : Machine) (x : Pause) (waits : m.next ≡ x) where
   abbrev code : Code
-  code = code_of m.setting.code.now
+  code = seen_code m.setting.code.now
 
   abbrev count : ℕ
   count = m.setting.count
@@ -40,10 +41,10 @@ module _ (m : Machine) (x : Pause) (waits : m.next ≡ x) where
     pub kept_there : (new : Execution) (next : Pause) → ∥ Holds code new ∥₁ → StandsBefore code count me new next → ∥ IsKept code count me new m.begun next ∥₁
     kept_there new next holds stands = kept_on code count me m.execution new m.begun m.next next leads_on m.kept holds stands
 
-    pub makes_there : (new : Execution) (next : Pause) (made : Kind) → After code count me m.execution new made next → (inputs : List Message) (events : List Kind) → StandsFor m inputs events
+    pub makes_there : (new : Execution) (next : Pause) (made : Kind) → After code count me m.execution new made next → (inputs : List Message) (events : List Kind) → MachineStandsFor m inputs events
         → ComesTo code count me new m.begun next inputs (made ∷ events)
     makes_there new next made after inputs events stands = after_comes code count me m.execution new m.begun m.next next made leads_on m.kept after inputs events stands
 
     pub accepts_there : (new : Execution) (next : Pause) (set : ℕ) (letter : Letter) → Accepts code count me m.execution new set letter next → (inputs : List Message) (events : List Kind)
-        → StandsFor m inputs events → ComesTo code count me new m.begun next (inputs ++ message_of letter ∷ []) (kind.Accepted set letter.id ∷ events)
+        → MachineStandsFor m inputs events → ComesTo code count me new m.begun next (inputs ++ message_of letter ∷ []) (kind.Accepted set letter.id ∷ events)
     accepts_there new next set letter took inputs events stands = accepts_comes code count me m.execution new m.begun m.next next set letter leads_on m.kept took inputs events stands

@@ -21,10 +21,11 @@ use Rattle.proc_machine.specs.declared.execution.Execution.{Execution}
 use Rattle.proc_machine.specs.declared.pause.Pause.{Pause}
 use Rattle.proc_machine.specs.declared.pause.Pause.TheVariants as pause
 use Rattle.proc_machine.specs.Pauses.{pause_of}
-use Rattle.proc_machine.specs.Ready.{is_addressed, has_room}
-use Rattle.proc_machine.specs.Sound.{Holds}
-use Rattle.proc_machine.specs.Run.{StandsBefore, instr_at, waits_at}
-use Rattle.proc_machine.specs.Standing.{IsKept, ComesTo, shown_state}
+use Rattle.proc_machine.specs.private.Ready.{is_addressed, has_room}
+use Rattle.proc_machine.specs.private.Sound.{Holds}
+use Rattle.proc_machine.specs.private.Run.{StandsBefore, instr_at, waits_at}
+use Rattle.proc_machine.specs.Standing.{ComesTo, shown_state}
+use Rattle.proc_machine.specs.private.Kept.{IsKept}
 use Rattle.proc_machine.proofs.Sets.{Outcome-set}
 use Rattle.proc_machine.proofs.Stepping.{ready_by}
 use Rattle.proc_machine.proofs.Standings.{ends_there, ends_large, never_later}

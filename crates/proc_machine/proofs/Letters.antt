@@ -6,7 +6,7 @@ use Rattle.nm_base.specs.declared.letter.LetterId.{LetterId}
 use Rattle.nm_base.specs.declared.letter.Letter.{Letter}
 use Rattle.nm_base.specs.declared.letter.Stamp.{Stamp}
 use Rattle.nm_base.specs.Scripts.{letter_made}
-use Rattle.proc_machine.specs.View.{sent_by}
+use Rattle.proc_machine.specs.private.Moves.{sent_by}
 
 pub letter_is : (me : ProcNo) (number : ℕ) (l : Letter) → l.id ≡ record { sender = me; number = number } → l.posted ≡ 0 → l.stamp.parts ≡ replicate 32 0 → Some l ≡ letter_made me (sent_by l)
 letter_is me number l id posted parts =

@@ -6,7 +6,7 @@ use Rattle.stack_code.specs.declared.instr.Instr.{Instr}
 use Rattle.stack_code.specs.declared.instr.Instr.TheVariants as instr
 use Rattle.stack_code.specs.Code.{Placed, FunctionCode, Code, steps_by, steps_of}
 use Rattle.proc_machine.specs.declared.heights.Level.{Level}
-use Rattle.proc_machine.specs.Heights.{takes, pushes, height_at, jump_on, after, first_level, level_from, level_before, high}
+use Rattle.proc_machine.specs.private.Heights.{takes, pushes, height_at, jump_on, after, first_level, level_from, level_before, high}
 
 level_zero : (code : Code) (place : ℕ) (xs : List Placed) (l : Level) → level_from code place xs 0 l ≡ l
 level_zero code place [] l = refl

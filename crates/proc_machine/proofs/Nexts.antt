@@ -6,12 +6,13 @@ use Rattle.nm_base.specs.Message.{Message}
 use Rattle.c_tree.specs.State.{State, Able, Wants, Over, Outcome, Done, Stopped}
 use Rattle.c_tree.proofs.Longer.{state_of, Leads, Extends}
 use Rattle.stack_code.specs.Code.{Placed, Code, steps_of}
-use Rattle.stack_code.specs.Law.{more}
+use Rattle.stack_code.specs.Laws.{more}
 use Rattle.stack_code.specs.Machine.{Control, filled, blocks_of, act_if_any, shown, step}
 use Rattle.stack_code.proofs.Law.{act_grows}
 use Rattle.proc_machine.specs.declared.pause.Pause.{Pause}
 use Rattle.proc_machine.specs.declared.pause.Pause.TheVariants as pause
-use Rattle.proc_machine.specs.Pauses.{pause_by, pause_of, newest}
+use Rattle.proc_machine.specs.Pauses.{pause_of}
+use Rattle.proc_machine.specs.private.Outcomes.{pause_by, newest}
 use Rattle.proc_machine.specs.Standing.{goes_by_itself}
 use Rattle.proc_machine.specs.Machines.{HasMade, HasCome}
 

@@ -4,7 +4,7 @@ use Rattle.std.specs.Prelude.{IsTrue, ◌&&◌, slice_index}
 use Rattle.stack_code.specs.Machine.{below}
 use Rattle.stack_code.specs.Valid.{Operand, Value, Place, ArrayPlace, ArrayLength, same_operand, pushed, go_on}
 use Rattle.stack_code.specs.Valid as valid
-use Rattle.proc_machine.specs.Sound.{IsOf, AreOf}
+use Rattle.proc_machine.specs.private.Sound.{IsOf, AreOf}
 
 pub both : (a b : Bool) → (a && b) ≡ true → (a ≡ true) × (b ≡ true)
 both true b h = (refl, h)

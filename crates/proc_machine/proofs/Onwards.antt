@@ -16,12 +16,14 @@ use Rattle.c_tree.specs.Expr.{receive}
 use Rattle.proc_machine.specs.declared.execution.Execution.{Execution}
 use Rattle.proc_machine.specs.declared.pause.Pause.{Pause}
 use Rattle.proc_machine.specs.declared.pause.Pause.TheVariants as pause
-use Rattle.proc_machine.specs.Pauses.{pause_by}
-use Rattle.proc_machine.specs.Ready.{IsReady, is_addressed, has_room}
-use Rattle.proc_machine.specs.View.{control_of, data_with, Makes, Takes}
-use Rattle.proc_machine.specs.Sound.{Holds}
-use Rattle.proc_machine.specs.Run.{Reaches, StandsBefore, After, Accepts, instr_at}
-use Rattle.proc_machine.specs.Standing.{IsKept, ComesTo}
+use Rattle.proc_machine.specs.private.Outcomes.{pause_by}
+use Rattle.proc_machine.specs.private.Ready.{IsReady, is_addressed, has_room}
+use Rattle.proc_machine.specs.View.{control_of, data_with}
+use Rattle.proc_machine.specs.private.Moves.{Makes, Takes}
+use Rattle.proc_machine.specs.private.Sound.{Holds}
+use Rattle.proc_machine.specs.private.Run.{Reaches, StandsBefore, After, Accepts, instr_at}
+use Rattle.proc_machine.specs.Standing.{ComesTo}
+use Rattle.proc_machine.specs.private.Kept.{IsKept}
 use Rattle.proc_machine.proofs.Sending.{send_faults, print_faults, word_bounds}
 use Rattle.proc_machine.proofs.Stepping.{by_shown, step_of, holds_after}
 use Rattle.proc_machine.proofs.Standings.{goes_through}
@@ -134,10 +136,6 @@ module _ (code : Code) (count me : ℕ) where
 
   no_proof : IsProp ⊥
   no_proof = hlevel props
-
-  pub is_begun : (e : Execution) (b : Bool) (n : Pause) → leads n ≡ true → Kept e b n → b ≡ true
-  is_begun e true n h k = refl
-  is_begun e false n h k = absurd (∥∥₁_elim k no_proof (never_large e n h))
 
   pub kept_both : (e : Execution) (b : Bool) (n : Pause) → leads n ≡ true → Kept e b n → ∥ (Holds code e × StandsBefore code count me e n) ∥₁
   kept_both e true n h k = ∥∥₁_map k (both_kept e n h)

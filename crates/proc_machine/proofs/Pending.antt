@@ -9,26 +9,27 @@ use Rattle.nm_base.specs.declared.kind.FaultCause.TheVariants.{DataFull}
 use Rattle.nm_base.specs.Message.{Message}
 use Rattle.c_tree.specs.State.{State, Able, Wants, Over, Outcome, Done, Stopped}
 use Rattle.stack_code.specs.Machine.{Control, step, first_data, run_code}
-use Rattle.stack_code.specs.View.{code_of}
+use Rattle.stack_code.specs.View.{seen_code}
 use Rattle.proc_machine.specs.declared.execution.Execution.{Execution}
 use Rattle.proc_machine.specs.declared.machine.Machine.{Machine}
 use Rattle.proc_machine.specs.declared.pause.Pause.{Pause}
 use Rattle.proc_machine.specs.declared.pause.Pause.TheVariants as pause
-use Rattle.proc_machine.specs.Pauses.{pause_by}
+use Rattle.proc_machine.specs.private.Outcomes.{pause_by}
 use Rattle.proc_machine.specs.View.{control_of, data_with}
-use Rattle.proc_machine.specs.Run.{state_there}
-use Rattle.proc_machine.specs.Standing.{IsKept, ComesTo, goes_by_itself}
-use Rattle.proc_machine.specs.Machines.{Setting, StandsFor, Expects, HasMade, HasCome, MakesNext, setting_of, state_of}
+use Rattle.proc_machine.specs.private.Run.{state_there}
+use Rattle.proc_machine.specs.Standing.{ComesTo, goes_by_itself}
+use Rattle.proc_machine.specs.private.Kept.{IsKept}
+use Rattle.proc_machine.specs.Machines.{MachineSetting, MachineStandsFor, Expects, HasMade, HasCome, MakesNext, machine_setting, state_of}
 use Rattle.proc_machine.proofs.Nexts.{makes_one, comes_to}
 use Rattle.proc_machine.proofs.Sets.{Outcome-set, Pause-set}
 use Rattle.proc_machine.proofs.Standings.{stops, one_further, large_ends, never_later}
 
-pub stops_of : (m : Machine) (inputs : List Message) (events : List Kind) → StandsFor m inputs events → Expects (setting_of m) inputs events m.next (state_of m events)
+pub stops_of : (m : Machine) (inputs : List Message) (events : List Kind) → MachineStandsFor m inputs events → Expects (machine_setting m) inputs events m.next (state_of m events)
 stops_of m inputs events s =
-    let r = stops (code_of m.setting.code.now) m.setting.count m.setting.me.no m.execution inputs events m.begun m.next m.kept s in
+    let r = stops (seen_code m.setting.code.now) m.setting.count m.setting.me.no m.execution inputs events m.begun m.next m.kept s in
     record { steps = r.0; stops = r.1 }
 
-module _ (set : Setting) (e : Execution) (inputs : List Message) where
+module _ (set : MachineSetting) (e : Execution) (inputs : List Message) where
   abbrev Comes : Bool → Pause → List Kind → Type 0
   Comes b n events = ComesTo set.code set.count set.me.no e b n inputs events
 
@@ -90,5 +91,5 @@ module _ (set : Setting) (e : Execution) (inputs : List Message) where
   makes_by events false (pause.Fault cause) k c = (0, large_makes cause events (∥∥₁_elim k (Cause-set _ _) (λ h. fault_is cause h.0)) k c)
   makes_by events false n k c = absurd (∥∥₁_elim k no_proof (λ h. let no = h.0 in cc))
 
-pub makes_of : (m : Machine) (inputs : List Message) (events : List Kind) → StandsFor m inputs events → MakesNext (setting_of m) inputs events m.next
-makes_of m inputs events s = makes_by (setting_of m) m.execution inputs events m.begun m.next m.kept s
+pub makes_of : (m : Machine) (inputs : List Message) (events : List Kind) → MachineStandsFor m inputs events → MakesNext (machine_setting m) inputs events m.next
+makes_of m inputs events s = makes_by (machine_setting m) m.execution inputs events m.begun m.next m.kept s

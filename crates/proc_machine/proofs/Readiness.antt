@@ -4,6 +4,7 @@ use Rattle.std.proofs.Common.{[], ◌∷◌, length, drop, Option, Some, None, r
 use Rattle.std.specs.Prelude.{IsTrue, ◌&&◌, ◌||◌, ◌==◌, not, is_none, unwrap_or, slice_get, slice_index, nat_lt, nat_le, if◌then◌else◌}
 use Rattle.std.specs.List.{list_all, list_any}
 use Rattle.std.proofs.lemmas.Bool.{ltb-true, leb-true, eqb-true}
+use Rattle.nm_base.specs.declared.limits.TheConstants.{MAX_DATA_WORDS}
 use Rattle.stack_code.specs.declared.instr.Instr.{Instr}
 use Rattle.stack_code.specs.declared.instr.Instr.TheVariants as instr
 use Rattle.stack_code.specs.declared.code.Variable.{Variable}
@@ -13,9 +14,10 @@ use Rattle.stack_code.specs.Valid.{Operand, Value, Place, IsSound, is_within, is
 use Rattle.stack_code.specs.Valid.{follows, follows_if_any, names_fit, go_on, pushed, taking, twice, swapped, is_single, values, operands_by, operands_of}
 use Rattle.stack_code.specs.Valid as valid
 use Rattle.proc_machine.specs.declared.execution.Execution.{Execution}
-use Rattle.proc_machine.specs.View.{control_of, frame_words_by}
-use Rattle.proc_machine.specs.Ready.{needs, adds, is_word_at, is_named, reaches, IsReady, param_words_by}
-use Rattle.proc_machine.specs.Sound.{IsSoundAt, Holds}
+use Rattle.proc_machine.specs.View.{control_of}
+use Rattle.proc_machine.specs.private.Moves.{frame_words_by}
+use Rattle.proc_machine.specs.private.Ready.{needs, adds, is_word_at, is_named, reaches, IsReady, param_words_by}
+use Rattle.proc_machine.specs.private.Sound.{IsSoundAt, Holds}
 use Rattle.proc_machine.proofs.OfKinds.{both, Tops, taken, taken_are, tops_length, tops_words, all_words, pushed_words, pushed_length, are_length}
 use Rattle.proc_machine.proofs.Advancing.{length_values, twice_is, swapped_is}
 
@@ -82,7 +84,7 @@ module _ (code : Code) (within : IsTrue (is_within code)) where
   short_texts = list_all (λ t. nat_le (length t) 509) code.texts
 
   abbrev few_words : Bool
-  few_words = nat_le (length code.globals) 65536
+  few_words = nat_le (length code.globals) MAX_DATA_WORDS
 
   abbrev laid : Bool
   laid = laid_out_from 0 code.variables
@@ -100,8 +102,8 @@ module _ (code : Code) (within : IsTrue (is_within code)) where
   four = (both (few && main_is && short_texts && few_words) laid
       (both (few && main_is && short_texts && few_words && laid) whole (both (few && main_is && short_texts && few_words && laid && whole) no_params seven).0).0).0
 
-  pub globals_few : length code.globals ≤ 65536
-  globals_few = leb-true (length code.globals) 65536 (both (few && main_is && short_texts) few_words four).1
+  pub globals_few : length code.globals ≤ MAX_DATA_WORDS
+  globals_few = leb-true (length code.globals) MAX_DATA_WORDS (both (few && main_is && short_texts) few_words four).1
 
   texts_short : short_texts ≡ true
   texts_short = (both (few && main_is) short_texts (both (few && main_is && short_texts) few_words four).0).1

@@ -1,9 +1,9 @@
 -- Runs of many steps.
-use Rattle.std.proofs.Common.{◌≡◌, ℕ, zero, suc, ◌+◌, refl, ap, ◌∙◌, arith}
+use Rattle.std.proofs.Common.{◌≡◌, ℕ, zero, suc, ◌+◌, ap, ◌∙◌, arith}
 use Rattle.c_tree.specs.State.{State, Outcome, Done, Stopped, then_on}
 use Rattle.stack_code.specs.Code.{Code}
 use Rattle.stack_code.specs.Machine.{Control, step, exec}
-use Rattle.proc_machine.specs.Run.{Reaches}
+use Rattle.proc_machine.specs.private.Run.{Reaches}
 
 module _ (code : Code) (count me : ℕ) where
   pub exec_more : (n : ℕ) (c : Control) (s : State) (d : Control) (u : State) (m : ℕ) → exec code count me n c s ≡ Done d u → exec code count me (n + m) c s ≡ exec code count me m d u
@@ -21,14 +21,8 @@ module _ (code : Code) (count me : ℕ) where
       by (Done x v) k e = k x v e
       by (Stopped status v) k e = cc
 
-  pub reaches_itself : (c : Control) (s : State) → Reaches code count me c s c s
-  reaches_itself c s = record { steps = 0; comes = refl }
-
   pub reaches_on : (c : Control) (s : State) (d : Control) (u : State) (x : Control) (v : State) → Reaches code count me c s d u → step code count me d u ≡ Done x v → Reaches code count me c s x v
   reaches_on c s d u x v r e = record {
     steps = r.steps + 1;
     comes = exec_more r.steps c s d u 1 r.comes ∙ ap (λ o. then_on o (exec code count me 0)) e;
   }
-
-  pub reaches_through : (c : Control) (s : State) (d : Control) (u : State) (x : Control) (v : State) → Reaches code count me c s d u → Reaches code count me d u x v → Reaches code count me c s x v
-  reaches_through c s d u x v r q = record { steps = r.steps + q.steps; comes = exec_more r.steps c s d u q.steps r.comes ∙ q.comes }

@@ -1,13 +1,14 @@
 -- Sends, receives and prints stand before their events, or before a fault.
 use Rattle.std.proofs.Common.{◌≡◌, ℕ, zero, suc, ◌+◌, ◌-◌, ◌<◌, ◌≤◌, ◌^◌, get_or, Bool, true, false, List, [], ◌∷◌, ◌++◌}
 use Rattle.std.proofs.Common.{length, take, drop, reverse, refl, sym, ap, ◌∙◌, subst, arith, rules, tests, Vec, Global, Ok, lit<}
-use Rattle.std.proofs.lemmas.Bool.{ltb-true, leb-true}
+use Rattle.std.proofs.lemmas.Bool.{leb-true}
 use Rattle.std.specs.Prelude.{IsTrue, nat_lt, nat_le, ◌&&◌, slice_index}
 use Rattle.std.proofs.lemmas.List.{append-nil, reverse-append, length-reverse, length-take, get_or-reverse}
 use Rattle.nm_base.specs.declared.kind.Kind.TheVariants.{Sent, Printed}
 use Rattle.nm_base.specs.declared.kind.FaultCause.TheVariants.{Address, OutputFull}
 use Rattle.nm_base.specs.declared.kind.Kind.{Kind}
 use Rattle.nm_base.specs.declared.letter.Letter.{Letter}
+use Rattle.nm_base.specs.declared.limits.TheConstants.{MAX_OUTPUT_BYTES}
 use Rattle.stack_code.specs.declared.instr.Instr.TheVariants as instr
 use Rattle.stack_code.specs.Code.{Code}
 use Rattle.c_tree.specs.State.{Done, Run, ◌>>=◌, ◌>>◌, pure, read, change, happen}
@@ -16,8 +17,9 @@ use Rattle.c_tree.specs.Expr.{demand, padded, send, send_words, print}
 use Rattle.stack_code.specs.Machine.{Control, popped, push, next}
 use Rattle.proc_machine.specs.declared.execution.Execution.{Execution}
 use Rattle.proc_machine.specs.declared.pause.Pause.TheVariants as pause
-use Rattle.proc_machine.specs.Pauses.{pause_by}
-use Rattle.proc_machine.specs.View.{control_of, data_with, Pauses, Keeps, given, sent_by}
+use Rattle.proc_machine.specs.private.Outcomes.{pause_by}
+use Rattle.proc_machine.specs.View.{control_of, data_with}
+use Rattle.proc_machine.specs.private.Moves.{Pauses, Keeps, given, sent_by}
 use Rattle.proc_machine.proofs.Calling.{popped_are}
 
 take_one : (xs : List ℕ) (i : ℕ) → i < length xs → take (suc i) xs ≡ take i xs ++ slice_index xs i ∷ []
@@ -161,7 +163,7 @@ module _ (e : Execution) where
     printing_is = ap (λ (p : List ℕ × List ℕ). push c p.1 (print (printed text p.0))) (taken_off n own few)
 
     abbrev room : Bool
-    room = nat_le (length e.output.items + length bytes) 1048576
+    room = nat_le (length e.output.items + length bytes) MAX_OUTPUT_BYTES
 
     pub print_pauses : room ≡ true → Pauses printing e pause.Print
     print_pauses h =
@@ -208,13 +210,6 @@ word_bounds words h = let b = both (nat_le 1 words) (nat_le words 8) h in (leb-t
 
 pub is_below : (j n : ℕ) → j < n → IsTrue (nat_lt j n)
 is_below j n h = search (rules, tests)
-
-pub text_bounds : (text count len : ℕ) → IsTrue (nat_lt text count && nat_le len 509) → (text < count) × (len ≤ 509)
-text_bounds text count len h = let b = both (nat_lt text count) (nat_le len 509) h in (ltb-true text count b.0, leb-true len 509 b.1)
-  where
-    both : (a b : Bool) → (a && b) ≡ true → (a ≡ true) × (b ≡ true)
-    both true b h = (refl, h)
-    both false b h = cc
 
 got_take : (own : List ℕ) (n j d : ℕ) → j < n → n ≤ length own → get_or (take n own) j d ≡ slice_index own j
 got_take own zero j d h m = absurd (omega (arith, h))

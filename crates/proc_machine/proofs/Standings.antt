@@ -1,25 +1,28 @@
 -- Where a machine stands, and how it goes on.
 use Rattle.std.proofs.Common.{◌≡◌, ℕ, zero, suc, ◌+◌, Bool, true, false, List, [], ◌∷◌, ◌++◌, length, Option, Some, None, refl, sym, ap, ◌∙◌, arith}
 use Rattle.std.proofs.Math.Logic.{∥∥₁_elim}
-use Rattle.std.specs.Prelude.{slice_get, nat_le, option_map}
+use Rattle.std.specs.Prelude.{slice_get, nat_le}
 use Rattle.std.proofs.lemmas.List.{append-nil}
 use Rattle.nm_base.specs.declared.kind.Kind.{Kind}
 use Rattle.nm_base.specs.declared.kind.Kind.TheVariants as kind
 use Rattle.nm_base.specs.declared.kind.FaultCause.TheVariants.{DataFull}
-use Rattle.nm_base.specs.Message.{Message, message_of}
-use Rattle.c_tree.specs.State.{State, Status, Able, Wants, Over, Outcome, Done, Stopped, change, then_on}
+use Rattle.nm_base.specs.Message.{Message}
+use Rattle.nm_base.specs.declared.limits.TheConstants.{MAX_DATA_WORDS}
+use Rattle.c_tree.specs.State.{State, Able, Wants, Over, Outcome, Done, Stopped, change, then_on}
 use Rattle.c_tree.specs.Expr.{demand}
 use Rattle.stack_code.specs.Code.{FunctionCode, Code}
-use Rattle.stack_code.specs.Law as law
+use Rattle.stack_code.specs.Laws as law
 use Rattle.stack_code.specs.Machine.{Control, step, exec, started_by, new_frame, first_data, run_code}
 use Rattle.stack_code.proofs.Law.{step_more}
 use Rattle.proc_machine.specs.declared.execution.Execution.{Execution}
 use Rattle.proc_machine.specs.declared.pause.Pause.{Pause}
 use Rattle.proc_machine.specs.declared.pause.Pause.TheVariants as pause
-use Rattle.proc_machine.specs.Pauses.{status_of, pause_by, pause_of, newest}
+use Rattle.proc_machine.specs.Pauses.{status_of, pause_of}
+use Rattle.proc_machine.specs.private.Outcomes.{pause_by, newest}
 use Rattle.proc_machine.specs.View.{control_of, data_with}
-use Rattle.proc_machine.specs.Run.{Reaches, StandsBefore}
-use Rattle.proc_machine.specs.Standing.{IsTooLarge, IsKept, shown_state, stand, ComesTo}
+use Rattle.proc_machine.specs.private.Run.{Reaches, StandsBefore}
+use Rattle.proc_machine.specs.Standing.{shown_state, stand, ComesTo}
+use Rattle.proc_machine.specs.private.Kept.{IsTooLarge, IsKept}
 use Rattle.proc_machine.proofs.Running.{exec_more}
 use Rattle.proc_machine.proofs.Sets.{Outcome-set, Status-set}
 
@@ -79,7 +82,7 @@ module _ (code : Code) (count me : ℕ) where
         → then_on (started_by code count me o (first_data code count me (inputs ++ letters) (suc k))) (exec code count me n) ≡ Done d (more u)
     main_further None inputs k n d u e =
         ap (λ j. exec code count me n start (first_data code count me (inputs ++ letters) j)) (sym (one_more k)) ∙ exec_further n start (first_data code count me inputs k) d u e
-    main_further (Some f) inputs k n d u e = begun_further f (nat_le (length code.globals + f.frame_words) 65536) inputs k n d u e
+    main_further (Some f) inputs k n d u e = begun_further f (nat_le (length code.globals + f.frame_words) MAX_DATA_WORDS) inputs k n d u e
 
     -- the same run, with one more event and more letters to come
     pub run_further : (inputs : List Message) (k n : ℕ) (d : Control) (u : State) → run inputs k n ≡ Done d u → run (inputs ++ letters) (suc k) n ≡ Done d (more u)
@@ -111,14 +114,6 @@ module _ (code : Code) (count me : ℕ) where
     pub large_ends : (inputs : List Message) (k n : ℕ) → run inputs (suc k) n ≡ Stopped Over (record (first_data code count me inputs k) { events = kind.Faulted DataFull ∷ [] })
     large_ends inputs k n = first_is inputs (suc k) n
 
-    pub large_data : (events : List Kind) → record (data_with e events 0) { frames = [] } ≡ record (first_data code count me [] 0) { events = events }
-    large_data events =
-        let fresh = large.fresh in
-        ap (λ w. record { words = w; frames = []; letter = option_map message_of e.letter; output = e.output.items; inputs = []; events = events; left = 0; sent = e.sent }) fresh.words
-        ∙ ap (λ l. record { words = code.globals; frames = []; letter = option_map message_of l; output = e.output.items; inputs = []; events = events; left = 0; sent = e.sent }) fresh.letter
-        ∙ ap (λ o. record { words = code.globals; frames = []; letter = None; output = o; inputs = []; events = events; left = 0; sent = e.sent }) fresh.output
-        ∙ ap (λ n. record { words = code.globals; frames = []; letter = None; output = []; inputs = []; events = events; left = 0; sent = n }) fresh.sent
-
   -- ---- what a machine knows of where it stands
 
   abbrev pub Kept : Execution → Bool → Pause → Type 0
@@ -126,11 +121,6 @@ module _ (code : Code) (count me : ℕ) where
 
   abbrev pub Comes : Execution → Bool → Pause → List Message → List Kind → Type 0
   Comes e b n inputs events = ComesTo code count me e b n inputs events
-
-  -- with no more events it stops there
-  record_of : (inputs : List Message) (events : List Kind) (status : Status) (s : State) (n : ℕ) → run inputs (length events) n ≡ Stopped status s
-      → (steps : ℕ) × (run inputs (length events) steps ≡ Stopped status s)
-  record_of inputs events status s n h = (n, h)
 
   module _ (e : Execution) (inputs : List Message) (events : List Kind) where
     abbrev pub Stops : Bool → Pause → Type 0

@@ -3,6 +3,7 @@ use Rattle.std.proofs.Common.{◌≡◌, ℕ, ◌+◌, ◌≤◌, Bool, true, fa
 use Rattle.std.specs.Prelude.{IsTrue, slice_get, option_map, nat_le}
 use Rattle.nm_base.specs.declared.kind.FaultCause.TheVariants.{DataFull}
 use Rattle.nm_base.specs.Message.{Message, message_of}
+use Rattle.nm_base.specs.declared.limits.TheConstants.{MAX_DATA_WORDS}
 use Rattle.c_tree.specs.State.{State, Done, then_on, Run}
 use Rattle.c_tree.specs.Expr.{demand}
 use Rattle.stack_code.specs.Code.{FunctionCode, Code}
@@ -13,9 +14,10 @@ use Rattle.stack_code.specs.Frame.{frame_of}
 use Rattle.stack_code.specs.Together.{start_of}
 use Rattle.proc_machine.specs.declared.callers.Caller.{Caller as KeptCaller}
 use Rattle.proc_machine.specs.declared.execution.Execution.{Execution}
-use Rattle.proc_machine.specs.View.{callers_of, frames_in, control_of, data_with, CallersFit, frame_words_by}
-use Rattle.proc_machine.specs.Sound.{IsSoundAt, Holds}
-use Rattle.proc_machine.specs.Standing.{IsFresh}
+use Rattle.proc_machine.specs.View.{callers_of, frames_in, control_of, data_with}
+use Rattle.proc_machine.specs.private.Moves.{CallersFit, frame_words_by}
+use Rattle.proc_machine.specs.private.Sound.{IsSoundAt, Holds}
+use Rattle.proc_machine.specs.private.Kept.{IsFresh}
 use Rattle.proc_machine.proofs.Sending.{has_room}
 
 module _ (code : Code) (e : Execution) (fresh : IsFresh code e) (words : List ℕ) where
@@ -54,7 +56,7 @@ module _ (code : Code) (e : Execution) (fresh : IsFresh code e) (words : List �
       ∙ ap (λ o. data_at code.main line (length code.globals) [] None o e.sent) fresh.output
       ∙ ap (λ s. data_at code.main line (length code.globals) [] None [] s) fresh.sent
 
-  module _ (h : FunctionCode) (is : slice_get code.functions code.main ≡ Some h) (fits : length code.globals + h.frame_words ≤ 65536) where
+  module _ (h : FunctionCode) (is : slice_get code.functions code.main ≡ Some h) (fits : length code.globals + h.frame_words ≤ MAX_DATA_WORDS) where
     line_is : e.frame.line ≡ h.line
     line_is = let s : option_map (λ (f : FunctionCode). f.line) (Some h) ≡ Some e.frame.line = ap (option_map (λ (f : FunctionCode). f.line)) (sym is) ∙ fresh.line in cc
 
@@ -79,7 +81,7 @@ module _ (code : Code) (e : Execution) (fresh : IsFresh code e) (words : List �
     pub main_called : (count me : ℕ) → words ≡ code.globals ++ take h.frame_words ([] ++ replicate h.frame_words 0) → run_code code count me [] 0 0 ≡ Done (control_of new) (data_with new [] 0)
     main_called count me w =
         ap (λ o. then_on (started_by code count me o (first_data code count me [] 0)) (exec code count me 0)) is
-        ∙ ap (λ o. then_on o (exec code count me 0)) (by_room (nat_le (length code.globals + h.frame_words) 65536) (has_room (length code.globals + h.frame_words) 65536 fits) _ _
+        ∙ ap (λ o. then_on o (exec code count me 0)) (by_room (nat_le (length code.globals + h.frame_words) MAX_DATA_WORDS) (has_room (length code.globals + h.frame_words) MAX_DATA_WORDS fits) _ _
         (first_data code count me [] 0))
         ∙ ap (λ l. Done start (record (data_at code.main h.line (length code.globals) [] None [] 0) { words = l })) (sym w)
         ∙ ap (λ c. Done c (data_at code.main h.line (length code.globals) [] None [] 0)) (sym control_is)

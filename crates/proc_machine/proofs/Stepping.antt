@@ -18,12 +18,13 @@ use Rattle.proc_machine.specs.declared.callers.Caller.{Caller as KeptCaller}
 use Rattle.proc_machine.specs.declared.execution.Execution.{Execution}
 use Rattle.proc_machine.specs.declared.pause.Pause.{Pause}
 use Rattle.proc_machine.specs.declared.pause.Pause.TheVariants as pause
-use Rattle.proc_machine.specs.Stacked.{lower}
-use Rattle.proc_machine.specs.Pauses.{pause_by}
-use Rattle.proc_machine.specs.View.{callers_of, control_of, data_with, Pauses, Keeps, Moves, IsLast, waits}
-use Rattle.proc_machine.specs.Sound.{Holds}
-use Rattle.proc_machine.specs.Ready.{IsReady}
-use Rattle.proc_machine.specs.Run.{IsLastThere, StandsBefore, waits_at, is_line, is_line_at, way, GoesOn, Steps, instr_at}
+use Rattle.proc_machine.specs.Divided.{lower}
+use Rattle.proc_machine.specs.private.Outcomes.{pause_by}
+use Rattle.proc_machine.specs.View.{callers_of, control_of, data_with}
+use Rattle.proc_machine.specs.private.Moves.{Pauses, Keeps, Moves, IsLast, waits}
+use Rattle.proc_machine.specs.private.Sound.{Holds}
+use Rattle.proc_machine.specs.private.Ready.{IsReady}
+use Rattle.proc_machine.specs.private.Run.{IsLastThere, StandsBefore, waits_at, is_line, is_line_at, way, GoesOn, Steps, instr_at}
 use Rattle.proc_machine.proofs.Advancing.{act_sound}
 use Rattle.proc_machine.proofs.Readiness.{there, is_there, ready, it_follows, params_are}
 

@@ -5,7 +5,8 @@ use Rattle.c_tree.specs.Storage.{zeroed}
 use Rattle.std.proofs.Math.Nat.{suc-mul}
 use Rattle.std.proofs.lemmas.List.{reverse-append, reverse-reverse, length-reverse, take-append-drop, length-drop}
 use Rattle.proc_machine.specs.declared.callers.Caller.{Caller}
-use Rattle.proc_machine.specs.Stacked.{OperandStack, Fits, upper, lower}
+use Rattle.proc_machine.specs.private.Stacked.{OperandStack, Fits}
+use Rattle.proc_machine.specs.Divided.{upper, lower}
 
 abbrev pub stack_at : List ℕ → ℕ → ℕ → OperandStack
 stack_at r base limit = record { own = upper base r; outer = lower base r; limit = limit }

@@ -1,12 +1,6 @@
-pub mod Callers
 pub mod Pauses
-pub mod Ready
-pub mod Heights
-pub mod Stacked
+pub mod Divided
 pub mod View
-pub mod Sound
-pub mod Run
 pub mod Standing
-pub mod Start
 pub mod Machines
-pub mod Alike
+pub mod private

@@ -1,7 +1,7 @@
 //! The calls that haven't returned, with the operands of each.
 
 ghost use Rattle.std.specs.Prelude.{◌≡◌, ℕ, ◌+◌, ◌-◌, ◌*◌, ◌<◌, ◌≤◌, ◌^◌, [], ◌∷◌, ◌++◌, length, take, drop, reverse, slice_index, slice_get, Some, IfOk, IfSome, MatchOption};
-ghost use Rattle.proc_machine.specs.Stacked.{entered, left_to};
+ghost use Rattle.proc_machine.specs.private.Stacked.{entered, left_to};
 
 use crate::callers::{Caller, Callers, Frame};
 use crate::operands::Operands;
@@ -19,13 +19,19 @@ pub(crate) struct CallStack {
 
 impl Model for CallStack {
     ghost use Rattle.std.specs.Prelude.{◌≤◌, ◌*◌, length};
-    ghost use Rattle.proc_machine.specs.Stacked.{Calls, Fits};
+    ghost use Rattle.proc_machine.specs.private.Stacked.{Calls, Fits};
 
     ghost Value = { Calls };
 
-    ghost view = { λ c. record { own = c.operands.own; outer = c.operands.outer; callers = c.callers; height = c.height } };
+    ghost view = { λ c. record {
+      own = c.operands.own;
+      outer = c.operands.outer;
+      callers = c.callers;
+      height = c.height;
+    } };
 
-    ghost invariant = { λ c. (256 * c.height ≤ c.operands.limit) × (length c.callers ≤ 255) × Fits c.height c.callers c.operands.outer };
+    ghost invariant = { λ c. (256 * c.height ≤ c.operands.limit) × (length c.callers ≤ 255)
+        × Fits c.height c.callers c.operands.outer };
 }
 
 impl CallStack {
@@ -103,7 +109,8 @@ impl CallStack {
 
     /// The innermost caller goes on, if there is one.
     pub(crate) fn leave(&mut self) -> Option<Caller>
-        ensures taken { MatchOption result ((self.old.callers ≡ []) × (self.new ≡ self.old)) (λ k. (self.old.callers ≡ k ∷ self.new.callers) × (self.new ≡ left_to k self.new.callers self.old)) }
+        ensures taken { MatchOption result ((self.old.callers ≡ []) × (self.new ≡ self.old))
+            (λ k. (self.old.callers ≡ k ∷ self.new.callers) × (self.new ≡ left_to k self.new.callers self.old)) }
         ensures onward { IfSome result (λ k. (k.frame.place + 1 < 2 ^ 32) × (length self.new.own < self.new.height)) }
     {
         match self.callers.pop() {

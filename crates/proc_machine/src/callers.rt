@@ -39,7 +39,7 @@ pub(crate) struct Callers {
 impl Model for Callers {
     ghost use Rattle.std.specs.Prelude.{◌≤◌, List, reverse, IsTrue};
     ghost use Rattle.std.specs.List.{list_all};
-    ghost use Rattle.proc_machine.specs.Callers.{goes_on};
+    ghost use Rattle.proc_machine.specs.private.Callers.{goes_on};
     ghost use Rattle.std.specs.Vec.{vec_len, vec_capacity};
     ghost use Rattle.proc_machine.specs.declared.callers.Caller.{Caller as OneCaller};
 
@@ -47,7 +47,8 @@ impl Model for Callers {
 
     ghost view = { λ c. reverse c.items.items };
 
-    ghost invariant = { λ c. (vec_len c.items ≤ 255) × (255 ≤ vec_capacity c.items) × IsTrue (list_all goes_on c.items.items) };
+    ghost invariant = { λ c. (vec_len c.items ≤ 255) × (255 ≤ vec_capacity c.items)
+        × IsTrue (list_all goes_on c.items.items) };
 }
 
 impl Callers {

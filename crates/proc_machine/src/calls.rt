@@ -1,12 +1,14 @@
 //! Instructions on calls, letters and output.
 
-ghost use Rattle.std.specs.Prelude.{◌≡◌, ℕ, ◌+◌, ◌-◌, ◌<◌, ◌≤◌, ◌^◌, ◌∷◌, length, drop, slice_index, Some, None, IfOk};
+ghost use Rattle.std.specs.Prelude.{◌≡◌, ℕ, ◌+◌, ◌-◌, ◌<◌, ◌≤◌, ◌^◌, ◌∷◌, length, slice_index, Some, None, IfOk};
 ghost use Rattle.stack_code.specs.declared.instr.Instr.TheVariants as instr;
-ghost use Rattle.stack_code.specs.View.{code_of};
-ghost use Rattle.proc_machine.specs.Ready.{IsReady};
-ghost use Rattle.proc_machine.specs.View.{Moves, opened};
-ghost use Rattle.proc_machine.specs.Pauses.{word_in};
+ghost use Rattle.stack_code.specs.View.{seen_code};
+ghost use Rattle.proc_machine.specs.private.Ready.{IsReady};
+ghost use Rattle.proc_machine.specs.private.Moves.{opened};
+ghost use Rattle.proc_machine.specs.private.Outcomes.{word_in};
+ghost use Rattle.proc_machine.specs.private.AtSetting.{MovesAt};
 ghost use Rattle.nm_base.specs.Message.{message_of};
+ghost use Rattle.nm_base.specs.declared.limits.TheConstants.{MAX_DATA_WORDS};
 
 use crate::callers::Frame;
 use crate::execution::{Execution, Setting};
@@ -16,18 +18,18 @@ use nm_base::{FaultCause, Letter, as_int};
 use stack_code::FunctionFrame;
 
 impl Execution {
-    /// Line.
+    /// Stands before the event of this line.
     pub(crate) fn at_line(&mut self, at: Setting<'_>, line: u32) -> Option<Pause>
-        requires { IsReady (code_of at.code.now) (instr.Line line) self.old }
-        ensures { Moves (code_of at.entry.code.now) at.entry.count at.entry.me.no (instr.Line line) self.old self.new result }
+        requires { IsReady (seen_code at.code.now) (instr.Line line) self.old }
+        ensures { MovesAt at.entry (instr.Line line) self.old self.new result }
     {
         Some(Pause::Line { line })
     }
 
-    /// Call.
+    /// Opens a frame for the function, or stands before a fault where the calls or the data are full.
     pub(crate) fn call(&mut self, at: Setting<'_>, function: u32) -> Option<Pause>
-        requires { IsReady (code_of at.code.now) (instr.Call function) self.old }
-        ensures { Moves (code_of at.entry.code.now) at.entry.count at.entry.me.no (instr.Call function) self.old self.new result }
+        requires { IsReady (seen_code at.code.now) (instr.Call function) self.old }
+        ensures { MovesAt at.entry (instr.Call function) self.old self.new result }
     {
         let frame = at.code.frame(function);
         if self.calls.callers() + 1 >= 256 {
@@ -50,7 +52,7 @@ impl Execution {
         requires words { (j : ℕ) → j < frame.param_words → slice_index self.old.calls.own j < 2 ^ 32 }
         requires height { length self.old.calls.own < self.old.calls.height }
         requires depth { length self.old.calls.callers < 255 }
-        requires room { length self.old.words + frame.frame_words ≤ 65536 }
+        requires room { length self.old.words + frame.frame_words ≤ MAX_DATA_WORDS }
         requires further { self.old.frame.place + 1 < 2 ^ 32 }
         ensures { self.new ≡ opened function start frame self.old }
     {
@@ -68,10 +70,11 @@ impl Execution {
         };
     }
 
-    /// Return.
+    /// Leaves the frame with the topmost operand as the value of its call. The outermost frame stays:
+    /// it stands before the end.
     pub(crate) fn give_back(&mut self, at: Setting<'_>) -> Option<Pause>
-        requires { IsReady (code_of at.code.now) instr.Return self.old }
-        ensures { Moves (code_of at.entry.code.now) at.entry.count at.entry.me.no instr.Return self.old self.new result }
+        requires { IsReady (seen_code at.code.now) instr.Return self.old }
+        ensures { MovesAt at.entry instr.Return self.old self.new result }
     {
         let value = self.calls.top(0);
         match self.calls.leave() {
@@ -88,10 +91,11 @@ impl Execution {
         }
     }
 
-    /// Word.
+    /// A word of the last letter takes the place of its number, or it stands before a fault where there
+    /// is no such word.
     pub(crate) fn letter_word(&mut self, at: Setting<'_>) -> Option<Pause>
-        requires { IsReady (code_of at.code.now) instr.Word self.old }
-        ensures { Moves (code_of at.entry.code.now) at.entry.count at.entry.me.no instr.Word self.old self.new result }
+        requires { IsReady (seen_code at.code.now) instr.Word self.old }
+        ensures { MovesAt at.entry instr.Word self.old self.new result }
     {
         let i = self.calls.top(0);
         let value = match &self.letter {
@@ -101,10 +105,10 @@ impl Execution {
         self.give(1, value)
     }
 
-    /// Words.
+    /// Pushes how many words the last letter has, or stands before a fault where there is no letter.
     pub(crate) fn letter_words(&mut self, at: Setting<'_>) -> Option<Pause>
-        requires { IsReady (code_of at.code.now) instr.Words self.old }
-        ensures { Moves (code_of at.entry.code.now) at.entry.count at.entry.me.no instr.Words self.old self.new result }
+        requires { IsReady (seen_code at.code.now) instr.Words self.old }
+        ensures { MovesAt at.entry instr.Words self.old self.new result }
     {
         let value = match &self.letter {
             None => Err(FaultCause::NoLetter),
@@ -113,10 +117,10 @@ impl Execution {
         self.give(0, value)
     }
 
-    /// From.
+    /// Pushes who sent the last letter, or stands before a fault where there is no letter.
     pub(crate) fn letter_from(&mut self, at: Setting<'_>) -> Option<Pause>
-        requires { IsReady (code_of at.code.now) instr.From self.old }
-        ensures { Moves (code_of at.entry.code.now) at.entry.count at.entry.me.no instr.From self.old self.new result }
+        requires { IsReady (seen_code at.code.now) instr.From self.old }
+        ensures { MovesAt at.entry instr.From self.old self.new result }
     {
         let value = match &self.letter {
             None => Err(FaultCause::NoLetter),
@@ -125,10 +129,10 @@ impl Execution {
         self.give(0, value)
     }
 
-    /// Via.
+    /// Pushes the channel of the last letter, or stands before a fault where there is no letter.
     pub(crate) fn letter_via(&mut self, at: Setting<'_>) -> Option<Pause>
-        requires { IsReady (code_of at.code.now) instr.Via self.old }
-        ensures { Moves (code_of at.entry.code.now) at.entry.count at.entry.me.no instr.Via self.old self.new result }
+        requires { IsReady (seen_code at.code.now) instr.Via self.old }
+        ensures { MovesAt at.entry instr.Via self.old self.new result }
     {
         let value = match &self.letter {
             None => Err(FaultCause::NoLetter),

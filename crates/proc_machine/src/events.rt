@@ -1,16 +1,17 @@
 //! Making an event.
 
-ghost use Rattle.std.specs.Prelude.{◌≡◌, ℕ, ◌+◌, ◌<◌, ◌≤◌, ◌^◌, ◌&&◌, ◌++◌, length, take, replicate, slice_index, nat_lt, nat_le, reverse, IsTrue};
+ghost use Rattle.std.specs.Prelude.{◌≡◌, ◌+◌, ◌<◌, ◌≤◌, ◌^◌, ◌&&◌, ◌++◌, length, replicate, slice_index, IsTrue};
 ghost use Rattle.std.specs.List.{AllWithin};
 ghost use Rattle.std.specs.Vec.{vec_len, vec_capacity};
 ghost use Rattle.nm_base.specs.declared.kind.Kind.TheVariants as kind;
 ghost use Rattle.c_tree.specs.Expr.{padded};
 ghost use Rattle.c_tree.specs.Print.{printed};
 ghost use Rattle.stack_code.specs.declared.instr.Instr.TheVariants as instr;
-ghost use Rattle.stack_code.specs.Machine.{conversions, text_at};
-ghost use Rattle.stack_code.specs.View.{code_of};
-ghost use Rattle.proc_machine.specs.Ready.{IsReady, is_addressed, has_room};
-ghost use Rattle.proc_machine.specs.View.{Makes, Takes, sent_by};
+ghost use Rattle.stack_code.specs.Machine.{conversions};
+ghost use Rattle.stack_code.specs.View.{seen_code};
+ghost use Rattle.proc_machine.specs.private.Ready.{IsReady, is_addressed, has_room};
+ghost use Rattle.proc_machine.specs.private.Moves.{sent_by};
+ghost use Rattle.proc_machine.specs.private.AtSetting.{MakesAt, TakesAt};
 
 use crate::execution::{Execution, Setting};
 use crate::messages::conversions;
@@ -21,8 +22,8 @@ use nm_base::{Kind, Letter, LetterId, ProcNo, Stamp};
 impl Execution {
     /// Comes to a line.
     pub(crate) fn pass_line(&mut self, at: Setting<'_>, line: u32)
-        requires { IsReady (code_of at.code.now) (instr.Line line) self.old }
-        ensures made { Makes (code_of at.entry.code.now) at.entry.count at.entry.me.no (instr.Line line) self.old self.new (kind.Line line) }
+        requires { IsReady (seen_code at.code.now) (instr.Line line) self.old }
+        ensures made { MakesAt at.entry (instr.Line line) self.old self.new (kind.Line line) }
         ensures sent { self.new.sent ≡ self.old.sent }
     {
         self.frame.line = line;
@@ -31,10 +32,10 @@ impl Execution {
 
     /// Accepts a letter.
     pub(crate) fn take_letter(&mut self, at: Setting<'_>, set: u32, letter: Letter)
-        requires ready { IsReady (code_of at.code.now) instr.Receive self.old }
+        requires ready { IsReady (seen_code at.code.now) instr.Receive self.old }
         requires set_is { slice_index self.old.calls.own 0 ≡ set }
         requires some { 0 < set }
-        ensures made { Takes (code_of at.entry.code.now) at.entry.count at.entry.me.no self.old self.new set letter }
+        ensures made { TakesAt at.entry self.old self.new set letter }
         ensures sent { self.new.sent ≡ self.old.sent }
     {
         let first = if letter.len == 0 { 0 } else { letter.words[0] };
@@ -44,10 +45,10 @@ impl Execution {
 
     /// Sends a letter of so many words.
     pub(crate) fn send_letter(&mut self, at: Setting<'_>, words: u32) -> Letter
-        requires ready { IsReady (code_of at.code.now) (instr.Send words) self.old }
+        requires ready { IsReady (seen_code at.code.now) (instr.Send words) self.old }
         requires addressed { IsTrue (is_addressed at.count words self.old.calls.own) }
         requires few { self.old.sent + 1 < 2 ^ 32 }
-        ensures made { Makes (code_of at.entry.code.now) at.entry.count at.entry.me.no (instr.Send words) self.old self.new (sent_by result) }
+        ensures made { MakesAt at.entry (instr.Send words) self.old self.new (sent_by result) }
         ensures sent { self.new.sent ≡ self.old.sent + 1 }
         ensures named { result.id ≡ record { sender = at.entry.me; number = self.old.sent } }
         ensures unposted { (result.posted ≡ 0) × (result.stamp.parts ≡ replicate 32 0) }
@@ -74,10 +75,10 @@ impl Execution {
 
     /// Prints, and answers how many bytes.
     pub(crate) fn print_bytes(&mut self, at: Setting<'_>, text: u32) -> u32
-        requires ready { IsReady (code_of at.code.now) (instr.Print text) self.old }
-        requires room { IsTrue (has_room (code_of at.code.now) text self.old) }
+        requires ready { IsReady (seen_code at.code.now) (instr.Print text) self.old }
+        requires room { IsTrue (has_room (seen_code at.code.now) text self.old) }
         requires spare { vec_len self.old.output + 4096 ≤ vec_capacity self.old.output }
-        ensures made { Makes (code_of at.entry.code.now) at.entry.count at.entry.me.no (instr.Print text) self.old self.new (kind.Printed result) }
+        ensures made { MakesAt at.entry (instr.Print text) self.old self.new (kind.Printed result) }
         ensures sent { self.new.sent ≡ self.old.sent }
     {
         let bytes = at.code.text(text);

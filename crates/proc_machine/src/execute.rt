@@ -1,8 +1,8 @@
 //! The next instruction, whatever it is.
 
-ghost use Rattle.stack_code.specs.View.{code_of};
-ghost use Rattle.proc_machine.specs.Ready.{IsReady};
-ghost use Rattle.proc_machine.specs.View.{Moves};
+ghost use Rattle.stack_code.specs.View.{seen_code};
+ghost use Rattle.proc_machine.specs.private.Ready.{IsReady};
+ghost use Rattle.proc_machine.specs.private.AtSetting.{MovesAt};
 
 use crate::execution::{Execution, Setting};
 use crate::pause::Pause;
@@ -11,8 +11,8 @@ use stack_code::Instr;
 impl Execution {
     /// One instruction: the execution goes on, or stands before an event.
     pub(crate) fn execute(&mut self, at: Setting<'_>, instr: Instr) -> Option<Pause>
-        requires { IsReady (code_of at.code.now) instr self.old }
-        ensures { Moves (code_of at.entry.code.now) at.entry.count at.entry.me.no instr self.old self.new result }
+        requires { IsReady (seen_code at.code.now) instr self.old }
+        ensures { MovesAt at.entry instr self.old self.new result }
     {
         match instr {
             Instr::Line(line) => self.at_line(at, line),

@@ -31,7 +31,7 @@ pub(crate) struct Execution {
 
 impl Execution {
     ghost use Rattle.std.specs.Prelude.{IfOk};
-    ghost use Rattle.proc_machine.specs.Alike.{IsAlike};
+    ghost use Rattle.proc_machine.specs.private.Alike.{IsAlike};
 
     /// The same, with as much memory for operands, words and callers.
     pub(crate) fn copy(&self, alloc: Global) -> Result<Execution, WantOfMemory>

@@ -2,8 +2,8 @@
 
 ghost use Rattle.std.specs.Prelude.{◌≡◌, ℕ, ◌+◌, ◌*◌, ◌<◌, ◌≤◌, ◌^◌, length, slice_get, Some};
 ghost use Rattle.stack_code.specs.Code.{Placed, steps_of};
-ghost use Rattle.stack_code.specs.View.{code_of};
-ghost use Rattle.proc_machine.specs.Heights.{takes, pushes, height_at, jump_on, after, high};
+ghost use Rattle.stack_code.specs.View.{seen_code};
+ghost use Rattle.proc_machine.specs.private.Heights.{takes, pushes, height_at, jump_on, after, high};
 
 use stack_code::{Code, Instr};
 
@@ -54,7 +54,7 @@ impl Level {
         requires now { self.now ≤ 2 * place }
         requires jumped { self.jumped ≤ 2 * place }
         requires short { place < 2 ^ 32 }
-        ensures same { result ≡ after (code_of code.entry.now) place instr self }
+        ensures same { result ≡ after (seen_code code.entry.now) place instr self }
         ensures now { result.now ≤ 2 * (place + 1) }
         ensures jumped { result.jumped ≤ 2 * (place + 1) }
     {
@@ -76,7 +76,7 @@ impl Level {
 
 /// How many operands an instruction takes off at least.
 fn takes(code: &Code, instr: Instr) -> usize
-    ensures { result ≡ takes (code_of code.entry.now) instr }
+    ensures { result ≡ takes (seen_code code.entry.now) instr }
 {
     match instr {
         Instr::Swap | Instr::Store | Instr::Binary(..) => 2,
@@ -122,9 +122,10 @@ fn pushes(instr: Instr) -> usize
 
 /// At least two more than the operands of a function at any of its places.
 fn height_of(code: &Code, function: u32) -> usize
-    requires known { function < length (code_of code.now).functions }
-    requires short { length (steps_of (code_of code.now) function) < 2 ^ 30 }
-    ensures most { (place : ℕ) → place < length (steps_of (code_of code.entry.now) function) → high (code_of code.entry.now) function place + 2 ≤ result }
+    requires known { function < length (seen_code code.now).functions }
+    requires short { length (steps_of (seen_code code.now) function) < 2 ^ 30 }
+    ensures most { (place : ℕ) → place < length (steps_of (seen_code code.entry.now) function)
+        → high (seen_code code.entry.now) function place + 2 ≤ result }
     ensures within { result < 2 ^ 32 }
 {
     let mut level = Level {
@@ -142,8 +143,9 @@ fn height_of(code: &Code, function: u32) -> usize
 
 /// At least two more than the operands of any function at any of its places.
 pub(crate) fn greatest_height(code: &Code) -> usize
-    requires { (g : ℕ) → length (steps_of (code_of code.now) g) < 2 ^ 30 }
-    ensures most { (g place : ℕ) → place < length (steps_of (code_of code.entry.now) g) → high (code_of code.entry.now) g place + 2 ≤ result }
+    requires { (g : ℕ) → length (steps_of (seen_code code.now) g) < 2 ^ 30 }
+    ensures most { (g place : ℕ) → place < length (steps_of (seen_code code.entry.now) g)
+        → high (seen_code code.entry.now) g place + 2 ≤ result }
     ensures within { result < 2 ^ 32 }
 {
     let mut most = 0;

@@ -1,4 +1,4 @@
-//! The machine that runs code: it stops before each event, makes the event when it is told to, and
+//! The machine that runs code: it stops before each event, makes the event when it is asked to, and
 //! runs on to the next.
 #![tactic(auto)]
 

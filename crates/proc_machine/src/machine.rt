@@ -1,7 +1,7 @@
 //! The machine.
 
-ghost use Rattle.proc_machine.specs.Standing.{IsKept};
-ghost use Rattle.stack_code.specs.View.{code_of};
+ghost use Rattle.proc_machine.specs.private.Kept.{IsKept};
+ghost use Rattle.stack_code.specs.View.{seen_code};
 
 use crate::events::sent_by;
 use crate::execution::{Execution, Setting};
@@ -18,7 +18,7 @@ pub struct Machine<'c> {
     /// Whether there was room for a frame of `main`.
     pub(crate) begun: bool,
     pub(crate) next: Pause,
-    ghost kept: { ∥ IsKept (code_of setting.code.now) setting.count setting.me.no execution begun next ∥₁ },
+    ghost kept: { ∥ IsKept (seen_code setting.code.now) setting.count setting.me.no execution begun next ∥₁ },
 }
 
 /// A frame: the instruction at which it stands, for an outer frame its Call; the place of its slot
@@ -34,14 +34,15 @@ impl<'c> Machine<'c> {
     ghost use Rattle.std.specs.Prelude.{◌≡◌, ℕ, ◌+◌, ◌<◌, ◌≤◌, ◌^◌, List, [], ◌∷◌, ◌++◌, length, slice_get, slice_index, Some, IsTrue, true, IfOk, OnOk};
     ghost use Rattle.nm_base.specs.declared.kind.Kind.{Kind};
     ghost use Rattle.nm_base.specs.declared.kind.Kind.TheVariants as kind;
+    ghost use Rattle.nm_base.specs.declared.limits.TheConstants.{MAX_PROCESSES};
     ghost use Rattle.nm_base.specs.Message.{Message, message_of};
     ghost use Rattle.nm_base.specs.Scripts.{is_last, letter_made};
     ghost use Rattle.nm_base.specs.Channels.{has_channel};
     ghost use Rattle.proc_machine.specs.declared.pause.Pause.TheVariants as pause;
     ghost use Rattle.proc_machine.specs.Pauses.{pause_of};
-    ghost use Rattle.proc_machine.specs.View.{sent_by};
+    ghost use Rattle.proc_machine.specs.private.Moves.{sent_by};
     ghost use Rattle.proc_machine.specs.Standing.{goes_by_itself};
-    ghost use Rattle.proc_machine.specs.Machines.{StandsFor, Expects, MakesNext, IsSame, IsAdvanced, HasAccepted, setting_of, next_of, state_of, frames_of, spare_output, letters_sent};
+    ghost use Rattle.proc_machine.specs.Machines.{MachineStandsFor, Expects, MakesNext, IsSame, IsAdvanced, HasAccepted, machine_setting, next_of, state_of, frames_of, spare_output, letters_sent};
 
     /// A machine that runs the code as process `me` of `n`, just before its first event. It reserves
     /// the memory for data, frames and operands. Conditions: `me` is below `n`, and `n` is 1 to 32.
@@ -52,9 +53,10 @@ impl<'c> Machine<'c> {
         n: u8,
     ) -> Result<Machine<'c>, WantOfMemory>
         requires known { me.no < n }
-        requires few { n ≤ 32 }
-        ensures setting { IfOk result (λ m. setting_of m ≡ record { code = code_of code.entry.now; count = n; me = me }) }
-        ensures stands { IfOk result (λ m. StandsFor m [] []) }
+        requires few { n ≤ MAX_PROCESSES }
+        ensures setting { IfOk result
+            (λ m. machine_setting m ≡ record { code = seen_code code.entry.now; count = n; me = me }) }
+        ensures stands { IfOk result (λ m. MachineStandsFor m [] []) }
         ensures sent { IfOk result (λ m. letters_sent m ≡ 0) }
     {
         let setting = Setting { code, me, count: n };
@@ -81,8 +83,10 @@ impl<'c> Machine<'c> {
     /// What it does next.
     pub fn pending(&self) -> Pause
         ensures same { result ≡ next_of self.now }
-        ensures stops { (inputs : List Message) (events : List Kind) → StandsFor self.now inputs events → Expects (setting_of self.now) inputs events result (state_of self.now events) }
-        ensures next { (inputs : List Message) (events : List Kind) → StandsFor self.now inputs events → MakesNext (setting_of self.now) inputs events result }
+        ensures stops { (inputs : List Message) (events : List Kind) → MachineStandsFor self.now inputs events
+            → Expects (machine_setting self.now) inputs events result (state_of self.now events) }
+        ensures next { (inputs : List Message) (events : List Kind) → MachineStandsFor self.now inputs events
+            → MakesNext (machine_setting self.now) inputs events result }
     {
         self.next
     }
@@ -137,7 +141,8 @@ impl<'c> Machine<'c> {
     pub fn reserve_output(&mut self, _alloc: Global) -> Result<(), WantOfMemory>
         ensures ok { OnOk result (4096 ≤ spare_output self.new) }
         ensures same { IsSame self.old self.new }
-        ensures stands { (inputs : List Message) (events : List Kind) → StandsFor self.old inputs events → StandsFor self.new inputs events }
+        ensures stands { (inputs : List Message) (events : List Kind) → MachineStandsFor self.old inputs events
+            → MachineStandsFor self.new inputs events }
     {
         self.execution
             .output
@@ -153,7 +158,7 @@ impl<'c> Machine<'c> {
         requires spare { 4096 ≤ spare_output self.old }
         requires few { letters_sent self.old + 1 < 2 ^ 32 }
         ensures made { IsAdvanced self.old self.new result.0 }
-        ensures letter { result.1 ≡ letter_made (setting_of self.old).me result.0 }
+        ensures letter { result.1 ≡ letter_made (machine_setting self.old).me result.0 }
     {
         match self.next {
             Pause::Line { line } => (self.come_to_line(line), None),
@@ -183,7 +188,9 @@ impl<'c> Machine<'c> {
     /// A machine that stands for the same, with as much memory reserved.
     pub fn copy(&self, alloc: Global) -> Result<Machine<'c>, WantOfMemory>
         ensures same { IfOk result (IsSame self.now) }
-        ensures stands { IfOk result (λ m. (inputs : List Message) (events : List Kind) → StandsFor self.now inputs events → StandsFor m inputs events) }
+        ensures stands { IfOk result
+            (λ m. (inputs : List Message) (events : List Kind) → MachineStandsFor self.now inputs events
+            → MachineStandsFor m inputs events) }
     {
         let execution = self.execution.copy(alloc)?;
         Ok(Machine {
@@ -207,7 +214,7 @@ impl<'c> Machine<'c> {
         requires waits { next_of self.old ≡ pause.Send }
         requires few { letters_sent self.old + 1 < 2 ^ 32 }
         ensures made { IsAdvanced self.old self.new (sent_by result) }
-        ensures letter { Some result ≡ letter_made (setting_of self.old).me (sent_by result) }
+        ensures letter { Some result ≡ letter_made (machine_setting self.old).me (sent_by result) }
     {
         let words = self.execution.words_to_send(self.setting);
         let (letter, next) = self.execution.go_past_send(self.setting, words);

@@ -1,25 +1,25 @@
 //! Instructions that send, receive and print.
 
-ghost use Rattle.std.specs.Prelude.{◌≡◌, ℕ, ◌+◌, ◌-◌, ◌<◌, ◌≤◌, ◌^◌, ◌∷◌, length, drop, slice_index, nat_lt, ◌&&◌, Some, None};
+ghost use Rattle.std.specs.Prelude.{◌≡◌, ◌+◌, ◌-◌, ◌<◌, ◌≤◌, ◌^◌, ◌∷◌, length, nat_lt, ◌&&◌, Some};
 ghost use Rattle.stack_code.specs.declared.instr.Instr.TheVariants as instr;
 ghost use Rattle.stack_code.specs.Machine.{conversions};
-ghost use Rattle.stack_code.specs.View.{code_of};
-ghost use Rattle.proc_machine.specs.Ready.{IsReady};
-ghost use Rattle.proc_machine.specs.View.{Moves};
+ghost use Rattle.stack_code.specs.View.{seen_code};
+ghost use Rattle.proc_machine.specs.private.Ready.{IsReady};
+ghost use Rattle.proc_machine.specs.private.AtSetting.{MovesAt};
 ghost use Rattle.c_tree.specs.Typing.{is_conversion};
 
 use crate::execution::{Execution, Setting};
 use crate::pause::Pause;
-use nm_base::FaultCause;
+use nm_base::{FaultCause, MAX_OUTPUT_BYTES};
 
 /// The most bytes that a process may print.
-const OUTPUT_LIMIT: usize = 1048576;
+const OUTPUT_LIMIT: usize = MAX_OUTPUT_BYTES as usize;
 
 impl Execution {
-    /// Send.
+    /// Stands before a send, or before a fault where no process or no channel has the number.
     pub(crate) fn send(&mut self, at: Setting<'_>, words: u32) -> Option<Pause>
-        requires { IsReady (code_of at.code.now) (instr.Send words) self.old }
-        ensures { Moves (code_of at.entry.code.now) at.entry.count at.entry.me.no (instr.Send words) self.old self.new result }
+        requires { IsReady (seen_code at.code.now) (instr.Send words) self.old }
+        ensures { MovesAt at.entry (instr.Send words) self.old self.new result }
     {
         let dest = self.calls.top(words as usize + 1);
         let chan = self.calls.top(words as usize);
@@ -32,10 +32,11 @@ impl Execution {
         }
     }
 
-    /// Receive.
+    /// Stands before a receive on the channels of the topmost operand, or before a fault where it names
+    /// none.
     pub(crate) fn receive(&mut self, at: Setting<'_>) -> Option<Pause>
-        requires { IsReady (code_of at.code.now) instr.Receive self.old }
-        ensures { Moves (code_of at.entry.code.now) at.entry.count at.entry.me.no instr.Receive self.old self.new result }
+        requires { IsReady (seen_code at.code.now) instr.Receive self.old }
+        ensures { MovesAt at.entry instr.Receive self.old self.new result }
     {
         let set = self.calls.top(0) as u32;
         if set == 0 {
@@ -47,10 +48,10 @@ impl Execution {
         }
     }
 
-    /// Print.
+    /// Stands before a print, or before a fault where the output would pass its limit.
     pub(crate) fn print(&mut self, at: Setting<'_>, text: u32) -> Option<Pause>
-        requires { IsReady (code_of at.code.now) (instr.Print text) self.old }
-        ensures { Moves (code_of at.entry.code.now) at.entry.count at.entry.me.no (instr.Print text) self.old self.new result }
+        requires { IsReady (seen_code at.code.now) (instr.Print text) self.old }
+        ensures { MovesAt at.entry (instr.Print text) self.old self.new result }
     {
         let bytes = at.code.text(text);
         let values = self.calls.last(conversions(bytes));

@@ -1,7 +1,7 @@
 //! The operands of all calls in one vector.
 
 ghost use Rattle.std.specs.Prelude.{◌≡◌, ℕ, ◌+◌, ◌-◌, ◌<◌, ◌≤◌, [], ◌∷◌, ◌++◌, length, take, drop, reverse, slice_index, IfOk};
-ghost use Rattle.proc_machine.specs.Stacked.{upper, lower};
+ghost use Rattle.proc_machine.specs.Divided.{upper, lower};
 
 use nm_base::WantOfMemory;
 use std::alloc::Global;
@@ -20,11 +20,16 @@ pub(crate) struct Operands {
 impl Model for Operands {
     ghost use Rattle.std.specs.Prelude.{◌≤◌, reverse};
     ghost use Rattle.std.specs.Vec.{vec_len, vec_capacity};
-    ghost use Rattle.proc_machine.specs.Stacked.{OperandStack, upper, lower};
+    ghost use Rattle.proc_machine.specs.private.Stacked.{OperandStack};
+    ghost use Rattle.proc_machine.specs.Divided.{upper, lower};
 
     ghost Value = { OperandStack };
 
-    ghost view = { λ o. record { own = upper o.base (reverse o.items.items); outer = lower o.base (reverse o.items.items); limit = o.limit } };
+    ghost view = { λ o. record {
+      own = upper o.base (reverse o.items.items);
+      outer = lower o.base (reverse o.items.items);
+      limit = o.limit;
+    } };
 
     ghost invariant = { λ o. (o.base ≤ vec_len o.items) × (o.limit ≤ vec_capacity o.items) };
 }

@@ -1,10 +1,11 @@
 //! Running on to the next event.
 
-ghost use Rattle.std.specs.Prelude.{◌≡◌, ℕ, List, Some};
+ghost use Rattle.std.specs.Prelude.{◌≡◌, List, Some};
 ghost use Rattle.nm_base.specs.declared.kind.Kind.{Kind};
-ghost use Rattle.stack_code.specs.View.{code_of};
-ghost use Rattle.proc_machine.specs.Sound.{Holds};
-ghost use Rattle.proc_machine.specs.Run.{Steps, RunsOn, StandsBefore, instr_at};
+ghost use Rattle.stack_code.specs.View.{seen_code};
+ghost use Rattle.proc_machine.specs.private.Sound.{Holds};
+ghost use Rattle.proc_machine.specs.private.Run.{instr_at};
+ghost use Rattle.proc_machine.specs.private.AtSetting.{StepsAt, RunsOnAt, StandsBeforeAt};
 
 use crate::execution::{Execution, Setting};
 use crate::pause::Pause;
@@ -13,8 +14,8 @@ use stack_code::Instr;
 impl Execution {
     /// The instruction at which it stands, by one index into the code.
     pub(crate) fn next_instr(&self, at: Setting<'_>) -> Instr
-        requires { ∥ Holds (code_of at.code.now) self.now ∥₁ }
-        ensures { instr_at (code_of at.entry.code.now) self.now ≡ Some result }
+        requires { ∥ Holds (seen_code at.code.now) self.now ∥₁ }
+        ensures { instr_at (seen_code at.entry.code.now) self.now ≡ Some result }
     {
         at.code
             .fetch(self.frame.start as usize + self.frame.place as usize)
@@ -22,9 +23,9 @@ impl Execution {
 
     /// Does the next instruction.
     fn step(&mut self, at: Setting<'_>) -> Option<Pause>
-        requires { ∥ Holds (code_of at.code.now) self.old ∥₁ }
-        ensures holds { ∥ Holds (code_of at.entry.code.now) self.new ∥₁ }
-        ensures steps { Steps (code_of at.entry.code.now) at.entry.count at.entry.me.no self.old self.new result }
+        requires { ∥ Holds (seen_code at.code.now) self.old ∥₁ }
+        ensures holds { ∥ Holds (seen_code at.entry.code.now) self.new ∥₁ }
+        ensures steps { StepsAt at.entry self.old self.new result }
     {
         let instr = self.next_instr(at);
         self.execute(at, instr)
@@ -32,11 +33,11 @@ impl Execution {
 
     /// Runs on to just before the next event.
     pub(crate) fn run(&mut self, at: Setting<'_>) -> Pause
-        requires { ∥ Holds (code_of at.code.now) self.old ∥₁ }
-        ensures holds { ∥ Holds (code_of at.entry.code.now) self.new ∥₁ }
-        ensures reaches { (events : List Kind) → RunsOn (code_of at.entry.code.now) at.entry.count at.entry.me.no self.old self.new events }
+        requires { ∥ Holds (seen_code at.code.now) self.old ∥₁ }
+        ensures holds { ∥ Holds (seen_code at.entry.code.now) self.new ∥₁ }
+        ensures reaches { (events : List Kind) → RunsOnAt at.entry self.old self.new events }
         ensures sent { self.new.sent ≡ self.old.sent }
-        ensures stands { StandsBefore (code_of at.entry.code.now) at.entry.count at.entry.me.no self.new result }
+        ensures stands { StandsBeforeAt at.entry self.new result }
     {
         'steps: loop {
             if let Some(pause) = self.step(at) {

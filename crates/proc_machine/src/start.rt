@@ -1,9 +1,9 @@
 //! The beginning of a run.
 
 ghost use Rattle.std.specs.Prelude.{◌≡◌, ℕ, [], IfOk};
-ghost use Rattle.stack_code.specs.View.{code_of};
-ghost use Rattle.proc_machine.specs.Standing.{IsFresh};
-ghost use Rattle.proc_machine.specs.Start.{IsCalled};
+ghost use Rattle.stack_code.specs.View.{seen_code};
+ghost use Rattle.proc_machine.specs.private.Kept.{IsFresh};
+ghost use Rattle.proc_machine.specs.private.Start.{IsCalled};
 
 use crate::call_stack::CallStack;
 use crate::callers::Frame;
@@ -21,7 +21,7 @@ const LONGEST: usize = 1 << 30;
 impl Execution {
     /// The data of a process before `main` is called.
     pub(crate) fn fresh(alloc: Global, code: &Code) -> Result<Execution, WantOfMemory>
-        ensures { IfOk result (IsFresh (code_of code.now)) }
+        ensures { IfOk result (IsFresh (seen_code code.now)) }
     {
         if code.longest() >= LONGEST {
             return Err(WantOfMemory);
@@ -48,8 +48,8 @@ impl Execution {
 
     /// Calls `main`, if there is room for its frame.
     pub(crate) fn call_main(&mut self, code: &Code) -> bool
-        requires { IsFresh (code_of code.now) self.old }
-        ensures { IsCalled (code_of code.now) self.old self.new result }
+        requires { IsFresh (seen_code code.now) self.old }
+        ensures { IsCalled (seen_code code.now) self.old self.new result }
     {
         let size = code.frame(self.frame.function).frame_words;
         if self.words.len() + size as usize > WORDS_LIMIT {

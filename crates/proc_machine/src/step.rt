@@ -1,11 +1,12 @@
 //! One instruction.
 
-ghost use Rattle.std.specs.Prelude.{◌≡◌, ℕ, ◌+◌, ◌-◌, ◌<◌, ◌≤◌, ◌^◌, ◌∷◌, length, drop, Some, None};
+ghost use Rattle.std.specs.Prelude.{◌≡◌, ◌+◌, ◌-◌, ◌<◌, ◌≤◌, ◌^◌, ◌∷◌, length, Some, None};
 ghost use Rattle.stack_code.specs.declared.instr.Instr.TheVariants as instr;
-ghost use Rattle.stack_code.specs.View.{code_of};
-ghost use Rattle.proc_machine.specs.Ready.{IsReady};
-ghost use Rattle.proc_machine.specs.View.{Moves, onward, given};
-ghost use Rattle.proc_machine.specs.Pauses.{fault_of, element_of};
+ghost use Rattle.stack_code.specs.View.{seen_code};
+ghost use Rattle.proc_machine.specs.private.Ready.{IsReady};
+ghost use Rattle.proc_machine.specs.private.Moves.{given};
+ghost use Rattle.proc_machine.specs.private.Outcomes.{fault_of, element_of};
+ghost use Rattle.proc_machine.specs.private.AtSetting.{MovesAt};
 
 use crate::execution::{Execution, Setting};
 use crate::pause::Pause;
@@ -32,65 +33,65 @@ impl Execution {
         }
     }
 
-    /// Push.
+    /// Pushes a constant.
     pub(crate) fn push_bits(&mut self, at: Setting<'_>, bits: u32) -> Option<Pause>
-        requires { IsReady (code_of at.code.now) (instr.Push bits) self.old }
-        ensures { Moves (code_of at.entry.code.now) at.entry.count at.entry.me.no (instr.Push bits) self.old self.new result }
+        requires { IsReady (seen_code at.code.now) (instr.Push bits) self.old }
+        ensures { MovesAt at.entry (instr.Push bits) self.old self.new result }
     {
         self.give(0, Ok(u64::from(bits)))
     }
 
-    /// Load.
+    /// The word at a place takes the place's place among the operands.
     pub(crate) fn load(&mut self, at: Setting<'_>) -> Option<Pause>
-        requires { IsReady (code_of at.code.now) instr.Load self.old }
-        ensures { Moves (code_of at.entry.code.now) at.entry.count at.entry.me.no instr.Load self.old self.new result }
+        requires { IsReady (seen_code at.code.now) instr.Load self.old }
+        ensures { MovesAt at.entry instr.Load self.old self.new result }
     {
         let word = self.words.get(self.calls.top(0));
         self.give(1, Ok(u64::from(word)))
     }
 
-    /// Store.
+    /// Stores the topmost operand at the place below it, and leaves the value.
     pub(crate) fn store(&mut self, at: Setting<'_>) -> Option<Pause>
-        requires { IsReady (code_of at.code.now) instr.Store self.old }
-        ensures { Moves (code_of at.entry.code.now) at.entry.count at.entry.me.no instr.Store self.old self.new result }
+        requires { IsReady (seen_code at.code.now) instr.Store self.old }
+        ensures { MovesAt at.entry instr.Store self.old self.new result }
     {
         let word = self.calls.top(0);
         self.words.set(self.calls.top(1), word as u32);
         self.give(2, Ok(word))
     }
 
-    /// Unary.
+    /// The operator's value takes the place of its operand, or it stands before the operator's fault.
     pub(crate) fn unary(&mut self, at: Setting<'_>, op: UnaryOp, of: Ctype) -> Option<Pause>
-        requires { IsReady (code_of at.code.now) (instr.Unary op of) self.old }
-        ensures { Moves (code_of at.entry.code.now) at.entry.count at.entry.me.no (instr.Unary op of) self.old self.new result }
+        requires { IsReady (seen_code at.code.now) (instr.Unary op of) self.old }
+        ensures { MovesAt at.entry (instr.Unary op of) self.old self.new result }
     {
         let value = apply_unary(op, of, self.calls.top(0) as u32);
         self.give(1, wide(value))
     }
 
-    /// Drop.
+    /// Takes the topmost operand off.
     pub(crate) fn drop_top(&mut self, at: Setting<'_>) -> Option<Pause>
-        requires { IsReady (code_of at.code.now) instr.Drop self.old }
-        ensures { Moves (code_of at.entry.code.now) at.entry.count at.entry.me.no instr.Drop self.old self.new result }
+        requires { IsReady (seen_code at.code.now) instr.Drop self.old }
+        ensures { MovesAt at.entry instr.Drop self.old self.new result }
     {
         self.calls.discard(1);
         self.frame.place += 1;
         None
     }
 
-    /// Dup.
+    /// Pushes the topmost operand once more.
     pub(crate) fn duplicate(&mut self, at: Setting<'_>) -> Option<Pause>
-        requires { IsReady (code_of at.code.now) instr.Dup self.old }
-        ensures { Moves (code_of at.entry.code.now) at.entry.count at.entry.me.no instr.Dup self.old self.new result }
+        requires { IsReady (seen_code at.code.now) instr.Dup self.old }
+        ensures { MovesAt at.entry instr.Dup self.old self.new result }
     {
         let value = self.calls.top(0);
         self.give(0, Ok(value))
     }
 
-    /// Swap.
+    /// Swaps the two topmost operands.
     pub(crate) fn swap(&mut self, at: Setting<'_>) -> Option<Pause>
-        requires { IsReady (code_of at.code.now) instr.Swap self.old }
-        ensures { Moves (code_of at.entry.code.now) at.entry.count at.entry.me.no instr.Swap self.old self.new result }
+        requires { IsReady (seen_code at.code.now) instr.Swap self.old }
+        ensures { MovesAt at.entry instr.Swap self.old self.new result }
     {
         let first = self.calls.top(0);
         let second = self.calls.top(1);
@@ -99,45 +100,46 @@ impl Execution {
         self.give(0, Ok(second))
     }
 
-    /// GlobalPlace.
+    /// Pushes the place of a global.
     pub(crate) fn global_place(&mut self, at: Setting<'_>, slot: u32) -> Option<Pause>
-        requires { IsReady (code_of at.code.now) (instr.GlobalPlace slot) self.old }
-        ensures { Moves (code_of at.entry.code.now) at.entry.count at.entry.me.no (instr.GlobalPlace slot) self.old self.new result }
+        requires { IsReady (seen_code at.code.now) (instr.GlobalPlace slot) self.old }
+        ensures { MovesAt at.entry (instr.GlobalPlace slot) self.old self.new result }
     {
         self.give(0, Ok(u64::from(slot)))
     }
 
-    /// LocalPlace.
+    /// Pushes the place of a variable of the frame.
     pub(crate) fn local_place(&mut self, at: Setting<'_>, slot: u32) -> Option<Pause>
-        requires { IsReady (code_of at.code.now) (instr.LocalPlace slot) self.old }
-        ensures { Moves (code_of at.entry.code.now) at.entry.count at.entry.me.no (instr.LocalPlace slot) self.old self.new result }
+        requires { IsReady (seen_code at.code.now) (instr.LocalPlace slot) self.old }
+        ensures { MovesAt at.entry (instr.LocalPlace slot) self.old self.new result }
     {
         self.give(0, Ok(self.place_of(slot)))
     }
 
-    /// GlobalAt.
+    /// The place of an element of a global array takes the place of its subscript, or it stands before
+    /// a fault where the array has none of that number.
     pub(crate) fn global_at(&mut self, at: Setting<'_>, base: u32, len: u32) -> Option<Pause>
-        requires { IsReady (code_of at.code.now) (instr.GlobalAt base len) self.old }
-        ensures { Moves (code_of at.entry.code.now) at.entry.count at.entry.me.no (instr.GlobalAt base len) self.old self.new result }
+        requires { IsReady (seen_code at.code.now) (instr.GlobalAt base len) self.old }
+        ensures { MovesAt at.entry (instr.GlobalAt base len) self.old self.new result }
     {
         let i = self.calls.top(0);
         self.give(1, element(u64::from(base), len, i))
     }
 
-    /// LocalAt.
+    /// The same of an array of the frame.
     pub(crate) fn local_at(&mut self, at: Setting<'_>, base: u32, len: u32) -> Option<Pause>
-        requires { IsReady (code_of at.code.now) (instr.LocalAt base len) self.old }
-        ensures { Moves (code_of at.entry.code.now) at.entry.count at.entry.me.no (instr.LocalAt base len) self.old self.new result }
+        requires { IsReady (seen_code at.code.now) (instr.LocalAt base len) self.old }
+        ensures { MovesAt at.entry (instr.LocalAt base len) self.old self.new result }
     {
         let i = self.calls.top(0);
         let place = self.place_of(base);
         self.give(1, element(place, len, i))
     }
 
-    /// ParamAt.
+    /// The same of the caller's array that a parameter names.
     pub(crate) fn param_at(&mut self, at: Setting<'_>, slot: u32) -> Option<Pause>
-        requires { IsReady (code_of at.code.now) (instr.ParamAt slot) self.old }
-        ensures { Moves (code_of at.entry.code.now) at.entry.count at.entry.me.no (instr.ParamAt slot) self.old self.new result }
+        requires { IsReady (seen_code at.code.now) (instr.ParamAt slot) self.old }
+        ensures { MovesAt at.entry (instr.ParamAt slot) self.old self.new result }
     {
         let place = self.words.get(self.place_of(slot));
         let len = self.words.get(self.place_of(slot) + 1);
@@ -145,29 +147,29 @@ impl Execution {
         self.give(1, element(u64::from(place), len, i))
     }
 
-    /// GlobalArray.
+    /// Pushes the place and the length of a global array.
     pub(crate) fn global_array(&mut self, at: Setting<'_>, base: u32, len: u32) -> Option<Pause>
-        requires { IsReady (code_of at.code.now) (instr.GlobalArray base len) self.old }
-        ensures { Moves (code_of at.entry.code.now) at.entry.count at.entry.me.no (instr.GlobalArray base len) self.old self.new result }
+        requires { IsReady (seen_code at.code.now) (instr.GlobalArray base len) self.old }
+        ensures { MovesAt at.entry (instr.GlobalArray base len) self.old self.new result }
     {
         self.calls.push(u64::from(base));
         self.give(0, Ok(u64::from(len)))
     }
 
-    /// LocalArray.
+    /// Pushes the place and the length of an array of the frame.
     pub(crate) fn local_array(&mut self, at: Setting<'_>, base: u32, len: u32) -> Option<Pause>
-        requires { IsReady (code_of at.code.now) (instr.LocalArray base len) self.old }
-        ensures { Moves (code_of at.entry.code.now) at.entry.count at.entry.me.no (instr.LocalArray base len) self.old self.new result }
+        requires { IsReady (seen_code at.code.now) (instr.LocalArray base len) self.old }
+        ensures { MovesAt at.entry (instr.LocalArray base len) self.old self.new result }
     {
         let place = self.place_of(base);
         self.calls.push(place);
         self.give(0, Ok(u64::from(len)))
     }
 
-    /// ParamArray.
+    /// Pushes the place and the length of the caller's array that a parameter names.
     pub(crate) fn param_array(&mut self, at: Setting<'_>, slot: u32) -> Option<Pause>
-        requires { IsReady (code_of at.code.now) (instr.ParamArray slot) self.old }
-        ensures { Moves (code_of at.entry.code.now) at.entry.count at.entry.me.no (instr.ParamArray slot) self.old self.new result }
+        requires { IsReady (seen_code at.code.now) (instr.ParamArray slot) self.old }
+        ensures { MovesAt at.entry (instr.ParamArray slot) self.old self.new result }
     {
         let place = self.words.get(self.place_of(slot));
         let len = self.words.get(self.place_of(slot) + 1);
@@ -175,29 +177,30 @@ impl Execution {
         self.give(0, Ok(u64::from(len)))
     }
 
-    /// Binary.
+    /// The operator's value takes the place of its two operands, or it stands before the operator's
+    /// fault.
     pub(crate) fn binary(&mut self, at: Setting<'_>, op: BinaryOp, of: Ctype) -> Option<Pause>
-        requires { IsReady (code_of at.code.now) (instr.Binary op of) self.old }
-        ensures { Moves (code_of at.entry.code.now) at.entry.count at.entry.me.no (instr.Binary op of) self.old self.new result }
+        requires { IsReady (seen_code at.code.now) (instr.Binary op of) self.old }
+        ensures { MovesAt at.entry (instr.Binary op of) self.old self.new result }
     {
         let left = self.calls.top(1) as u32;
         let right = self.calls.top(0) as u32;
         self.give(2, wide(apply_binary(op, of, left, right)))
     }
 
-    /// Jump.
+    /// Goes on at the target.
     pub(crate) fn jump(&mut self, at: Setting<'_>, target: u32) -> Option<Pause>
-        requires { IsReady (code_of at.code.now) (instr.Jump target) self.old }
-        ensures { Moves (code_of at.entry.code.now) at.entry.count at.entry.me.no (instr.Jump target) self.old self.new result }
+        requires { IsReady (seen_code at.code.now) (instr.Jump target) self.old }
+        ensures { MovesAt at.entry (instr.Jump target) self.old self.new result }
     {
         self.frame.place = target;
         None
     }
 
-    /// JumpZero.
+    /// Takes the topmost operand off, and goes on at the target where it was 0.
     pub(crate) fn jump_zero(&mut self, at: Setting<'_>, target: u32) -> Option<Pause>
-        requires { IsReady (code_of at.code.now) (instr.JumpZero target) self.old }
-        ensures { Moves (code_of at.entry.code.now) at.entry.count at.entry.me.no (instr.JumpZero target) self.old self.new result }
+        requires { IsReady (seen_code at.code.now) (instr.JumpZero target) self.old }
+        ensures { MovesAt at.entry (instr.JumpZero target) self.old self.new result }
     {
         let value = self.calls.top(0);
         self.calls.discard(1);
@@ -209,10 +212,10 @@ impl Execution {
         None
     }
 
-    /// Zero.
+    /// Makes so many words of the frame 0.
     pub(crate) fn zero(&mut self, at: Setting<'_>, base: u32, len: u32) -> Option<Pause>
-        requires { IsReady (code_of at.code.now) (instr.Zero base len) self.old }
-        ensures { Moves (code_of at.entry.code.now) at.entry.count at.entry.me.no (instr.Zero base len) self.old self.new result }
+        requires { IsReady (seen_code at.code.now) (instr.Zero base len) self.old }
+        ensures { MovesAt at.entry (instr.Zero base len) self.old self.new result }
     {
         let place = self.place_of(base);
         self.words.clear(place, len);
@@ -220,18 +223,18 @@ impl Execution {
         None
     }
 
-    /// SelfNo.
+    /// Pushes the process's own number.
     pub(crate) fn self_no(&mut self, at: Setting<'_>) -> Option<Pause>
-        requires { IsReady (code_of at.code.now) instr.SelfNo self.old }
-        ensures { Moves (code_of at.entry.code.now) at.entry.count at.entry.me.no instr.SelfNo self.old self.new result }
+        requires { IsReady (seen_code at.code.now) instr.SelfNo self.old }
+        ensures { MovesAt at.entry instr.SelfNo self.old self.new result }
     {
         self.give(0, Ok(u64::from(at.me.no)))
     }
 
-    /// Count.
+    /// Pushes the number of processes.
     pub(crate) fn count(&mut self, at: Setting<'_>) -> Option<Pause>
-        requires { IsReady (code_of at.code.now) instr.Count self.old }
-        ensures { Moves (code_of at.entry.code.now) at.entry.count at.entry.me.no instr.Count self.old self.new result }
+        requires { IsReady (seen_code at.code.now) instr.Count self.old }
+        ensures { MovesAt at.entry instr.Count self.old self.new result }
     {
         self.give(0, Ok(u64::from(at.count)))
     }

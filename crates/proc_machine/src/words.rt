@@ -4,12 +4,12 @@ ghost use Rattle.std.specs.Prelude.{◌≡◌, ℕ, ◌+◌, ◌<◌, ◌≤◌,
 ghost use Rattle.std.specs.List.{AllWithin};
 ghost use Rattle.c_tree.specs.Storage.{zeroed};
 
-use nm_base::WantOfMemory;
+use nm_base::{MAX_DATA_WORDS, WantOfMemory};
 use std::alloc::Global;
 use std::marker::Model;
 
 /// How many words a process may have.
-pub(crate) const WORDS_LIMIT: usize = 65536;
+pub(crate) const WORDS_LIMIT: usize = MAX_DATA_WORDS as usize;
 
 /// The words of the globals and then of each frame, the outermost first, with memory for all that
 /// there may be.
@@ -29,18 +29,19 @@ pub(crate) fn word_or_zero(words: &[u64], i: usize) -> u32
 impl Model for Words {
     ghost use Rattle.std.specs.Prelude.{ℕ, ◌≤◌, List};
     ghost use Rattle.std.specs.Vec.{vec_len, vec_capacity};
+    ghost use Rattle.nm_base.specs.declared.limits.TheConstants.{MAX_DATA_WORDS};
 
     ghost Value = { List ℕ };
 
     ghost view = { λ w. w.items.items };
 
-    ghost invariant = { λ w. (vec_len w.items ≤ 65536) × (65536 ≤ vec_capacity w.items) };
+    ghost invariant = { λ w. (vec_len w.items ≤ MAX_DATA_WORDS) × (MAX_DATA_WORDS ≤ vec_capacity w.items) };
 }
 
 impl Words {
     /// These words, with memory for more.
     pub(crate) fn from_slice(alloc: Global, words: &[u32]) -> Result<Words, WantOfMemory>
-        requires { length words.now ≤ 65536 }
+        requires { length words.now ≤ MAX_DATA_WORDS }
         ensures { IfOk result (λ w. w ≡ words.now) }
     {
         let mut items = Vec::with_capacity(alloc, WORDS_LIMIT)?;
@@ -50,7 +51,7 @@ impl Words {
 
     pub(crate) fn len(&self) -> usize
         ensures same { result ≡ length self.now }
-        ensures within { result ≤ 65536 }
+        ensures within { result ≤ MAX_DATA_WORDS }
     {
         self.items.len()
     }
@@ -88,7 +89,7 @@ impl Words {
 
     /// Adds the words of a frame: first these, and then 0.
     pub(crate) fn open(&mut self, first: &[u64], size: u32)
-        requires room { length self.old + size ≤ 65536 }
+        requires room { length self.old + size ≤ MAX_DATA_WORDS }
         requires words { AllWithin (λ x. x < 2 ^ 32) first.now 0 (length first.now) }
         ensures { self.new ≡ self.old ++ take size (first.now ++ replicate size 0) }
     {

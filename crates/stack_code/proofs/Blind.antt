@@ -6,9 +6,10 @@ use Rattle.nm_base.specs.declared.kind.Kind.TheVariants.{Line, Sent, Printed, Fa
 use Rattle.nm_base.specs.declared.kind.FaultCause.{FaultCause}
 use Rattle.nm_base.specs.declared.kind.FaultCause.TheVariants.{Index, Address, EmptySet, NoLetter, DepthFull, DataFull, OutputFull}
 use Rattle.nm_base.specs.Message.{Message}
+use Rattle.nm_base.specs.declared.limits.TheConstants.{MAX_DATA_WORDS, MAX_OUTPUT_BYTES}
 use Rattle.c_tree.specs.State.{Frame, State, Outcome, Done, Stopped, Run, then_on, ◌>>=◌, ◌>>◌, pure, read, change, happen_by, happen, stop_over, end_with, fault, or_fault, with_line, line_event}
 use Rattle.c_tree.specs.Storage.{base_of, stored}
-use Rattle.c_tree.specs.Expr.{choice, demand, load, store, element, padded, send, send_words, accept_by, receive, of_letter_by, of_letter, word_of, print, output_limit, frame_limit, words_limit, without_frame_by, leave}
+use Rattle.c_tree.specs.Expr.{demand, load, store, element, padded, send, send_words, accept_by, receive, of_letter_by, of_letter, word_of, print, frame_limit, without_frame_by, leave}
 use Rattle.stack_code.specs.Machine.{with_blocks, filled, later_blocks, local_place, param_array, new_frame, open_frame}
 
 abbrev pub Blocks : Type 0
@@ -98,10 +99,6 @@ pub or_fault_blind : {A : Type 0} (r : Result A FaultCause) → Blind (or_fault 
 or_fault_blind (Ok a) = pure_blind a
 or_fault_blind (Err cause) = fault_blind cause
 
-pub choice_blind : {A : Type 0} (t : Bool) {a b : Run A} → Blind a → Blind b → Blind (choice t a b)
-choice_blind true f g = f
-choice_blind false f g = g
-
 pub demand_blind : (t : Bool) (cause : FaultCause) → Blind (demand t cause)
 demand_blind true cause = pure_blind tt
 demand_blind false cause = fault_blind cause
@@ -176,7 +173,7 @@ word_of_blind i =
 pub print_blind : (bytes : List ℕ) → Blind (print bytes)
 print_blind bytes =
     bind_blind (read_blind (λ s. length s.output) (λ blocks s. refl)) (λ before.
-    bind_blind (demand_blind (nat_le (before + length bytes) output_limit) OutputFull) (λ _.
+    bind_blind (demand_blind (nat_le (before + length bytes) MAX_OUTPUT_BYTES) OutputFull) (λ _.
     bind_blind (happen_blind (Printed (length bytes))) (λ _.
     bind_blind (change_blind (λ s. record s { output = s.output ++ bytes }) (λ blocks s. refl) (λ s. refl)) (λ _. pure_blind (length bytes)))))
 
@@ -221,7 +218,7 @@ open_frame_moves number line size words =
     bind_moves (read_blind (λ s. length s.frames) (λ blocks s. length_same blocks s.frames)) (λ depth.
     bind_moves (demand_blind (nat_lt depth frame_limit) DepthFull) (λ _.
     bind_moves (read_blind (λ s. length s.words) (λ blocks s. refl)) (λ before.
-    bind_moves (demand_blind (nat_le (before + size) words_limit) DataFull) (λ _.
+    bind_moves (demand_blind (nat_le (before + size) MAX_DATA_WORDS) DataFull) (λ _.
     new_frame_moves number line size words))))
 
 without_same : (fs : List Frame) (blocks : Blocks) (s : State) → s.frames ≡ fs → without_frame_by (with_blocks blocks fs) (filled blocks s) ≡ filled (later_blocks blocks) (without_frame_by fs s)

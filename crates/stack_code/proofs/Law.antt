@@ -5,16 +5,17 @@ use Rattle.nm_base.specs.declared.kind.Kind.TheVariants.{Ended}
 use Rattle.nm_base.specs.declared.kind.FaultCause.TheVariants.{DepthFull, DataFull}
 use Rattle.nm_base.specs.Message.{Message}
 use Rattle.nm_base.specs.Word.{unary, binary, as_int}
+use Rattle.nm_base.specs.declared.limits.TheConstants.{MAX_DATA_WORDS}
 use Rattle.c_tree.specs.State.{State, Status, Outcome, Done, Stopped, Run, then_on, ◌>>=◌, pure}
 use Rattle.c_tree.specs.Storage.{base_of, zeroed}
 use Rattle.c_tree.specs.Print.{printed}
-use Rattle.c_tree.specs.Expr.{is_true, frame_limit, words_limit}
+use Rattle.c_tree.specs.Expr.{is_true, frame_limit}
 use Rattle.c_tree.proofs.Longer.{Extends, Follows, bind_follows, pure_follows, read_follows, change_follows, end_with_follows, or_fault_follows, line_event_follows, choice_follows, demand_follows, load_follows, store_follows, element_follows, send_words_follows, receive_follows, of_letter_follows, word_of_follows, print_follows, leave_follows}
 use Rattle.stack_code.specs.declared.instr.Instr.{Instr}
 use Rattle.stack_code.specs.declared.instr.Instr.TheVariants as instr
 use Rattle.stack_code.specs.Code.{Placed, FunctionCode, Code, steps_of}
-use Rattle.stack_code.specs.Law as law
-use Rattle.stack_code.specs.Law.{RunsOn}
+use Rattle.stack_code.specs.Laws as law
+use Rattle.stack_code.specs.Laws.{RunsOn}
 use Rattle.stack_code.specs.Machine.{Caller, Control, top, below, popped, next, push, local_place, param_array, new_frame, open_frame, called, returned, conversions, text_at, act, act_if_any, shown, step, exec}
 
 module _ (code : Code) (count me : ℕ) where
@@ -60,7 +61,7 @@ module _ (code : Code) (count me : ℕ) where
           then_grows (read_follows extra letters b b' (λ s. length s.frames) (λ s. refl)) (λ depth.
           then_grows (demand_follows extra letters b b' (nat_lt depth frame_limit) DepthFull) (λ _.
           then_grows (read_follows extra letters b b' (λ s. length s.words) (λ s. refl)) (λ before.
-          then_grows (demand_follows extra letters b b' (nat_le (before + size) words_limit) DataFull) (λ _.
+          then_grows (demand_follows extra letters b b' (nat_le (before + size) MAX_DATA_WORDS) DataFull) (λ _.
           change_follows extra letters b b' (new_frame number line size words) (λ s. refl) (λ s. refl) (λ s. refl)))))
 
       called_grows : (number : ℕ) (f : Option FunctionCode) (c : Control) → Grows b b' (called number f c)

@@ -53,4 +53,5 @@ blocks_nest number (b ∷ bs) = nat_le b.outer number && blocks_nest (number + 1
 -- each instruction stands in a block, or in none
 abbrev pub is_kept : CodeFunction → Bool
 is_kept f =
-    length f.inside.items == length f.instrs.items && list_all (λ n. nat_le n (length f.blocks.items)) f.inside.items && blocks_nest 0 f.blocks.items
+    length f.inside.items == length f.instrs.items && list_all (λ n. nat_le n (length f.blocks.items)) f.inside.items
+    && blocks_nest 0 f.blocks.items

@@ -31,13 +31,16 @@ abbrev pub follow_from : ℕ → List LaidFunction → ℕ → Bool
 follow_from place [] end = place == end
 follow_from place (f ∷ fs) end = f.start == place && follow_from (place + f.len) fs end
 
--- each of a function's instructions stands in one of its blocks, or in none, and each block in an earlier one, or in none
+-- each of a function's instructions stands in one of its blocks, or in none, and each block in an earlier one, or in
+-- none
 abbrev pub is_part : List ℕ → LaidFunction → Bool
 is_part inside f =
-    nat_le (f.start + f.len) (length inside) && list_all (λ n. nat_le n (length f.blocks.items)) (part f.start f.len inside) && blocks_nest 0 f.blocks.items
+    nat_le (f.start + f.len) (length inside) && list_all (λ n. nat_le n (length f.blocks.items))
+    (part f.start f.len inside) && blocks_nest 0 f.blocks.items
 
 abbrev pub is_laid_out : List LaidFunction → List Instr → List ℕ → Bool
-is_laid_out functions instrs inside = length inside == length instrs && follow_from 0 functions (length instrs) && list_all (is_part inside) functions
+is_laid_out functions instrs inside =
+    length inside == length instrs && follow_from 0 functions (length instrs) && list_all (is_part inside) functions
 
 -- what the definitions of the machine see of it
 abbrev pub laid_view : Layout → ℕ → List (List ℕ) → List ℕ → List Variable → Code

@@ -1,6 +1,6 @@
 pub mod Code
 pub mod Machine
-pub mod Law
+pub mod Laws
 pub mod Forward
 pub mod Blocks
 pub mod Layout

@@ -19,7 +19,8 @@ is_named name (Some x) = bytes_eq x.name name
 -- a block's local
 abbrev pub in_block : List ℕ → List Variable → List ℕ → Option Variable
 in_block name slots [] = None
-in_block name slots (i ∷ is) = elim (is_named name (slice_get slots i)) [ true ↦ slice_get slots i | false ↦ in_block name slots is ]
+in_block name slots (i ∷ is) =
+    elim (is_named name (slice_get slots i)) [ true ↦ slice_get slots i | false ↦ in_block name slots is ]
 
 -- from the innermost block on
 abbrev pub in_blocks : List ℕ → List Variable → List (List ℕ) → Option Variable
@@ -31,7 +32,8 @@ as_global x = record { home = Global; slot = x.place; of = x.of; length = x.leng
 
 abbrev pub as_local : Variable → Found
 as_local x =
-    if x.array_param then record { home = ArrayParam; slot = x.place; of = x.of; length = None } else record { home = Local; slot = x.place; of = x.of; length = x.length }
+    if x.array_param then record { home = ArrayParam; slot = x.place; of = x.of; length = None }
+    else record { home = Local; slot = x.place; of = x.of; length = x.length }
 
 abbrev pub or_else : Option Found → Option Found → Option Found
 or_else None b = b
@@ -39,7 +41,8 @@ or_else (Some x) b = Some x
 
 -- in these blocks, and then among the parameters, which are so many of the slots
 abbrev pub found_among : List Variable → ℕ → List (List ℕ) → List ℕ → Option Found
-found_among slots params blocks name = or_else (option_map as_local (in_blocks name slots blocks)) (option_map as_local (first_named name (take params slots)))
+found_among slots params blocks name = or_else (option_map as_local (in_blocks name slots blocks))
+    (option_map as_local (first_named name (take params slots)))
 
 -- in the blocks that are entered there, and then among the parameters
 abbrev pub found_in : FunctionCode → ℕ → List ℕ → Option Found

@@ -1,6 +1,8 @@
 -- Code that a machine runs with no tests of its own.
-use Rattle.std.specs.Prelude.{◌≡◌, ℕ, zero, suc, ◌+◌, Bool, true, false, not, ◌&&◌, ◌==◌, nat_lt, nat_le, is_none, List, [], ◌∷◌, length, drop, replicate, Option, Some, None, unwrap_or, slice_get, IsTrue, if◌then◌else◌}
+use Rattle.std.specs.Prelude.{◌≡◌, ℕ, zero, suc, ◌+◌, Bool, true, false, not, ◌&&◌, ◌==◌, nat_lt, nat_le, is_none, List, [], ◌∷◌, length, drop, replicate, Option, Some, None, slice_get, IsTrue}
 use Rattle.std.specs.List.{list_all, list_any}
+use Rattle.nm_base.specs.declared.limits.TheConstants.{MAX_DATA_WORDS}
+use Rattle.c_tree.specs.Storage.{words_taken}
 use Rattle.stack_code.specs.declared.instr.Instr.{Instr}
 use Rattle.stack_code.specs.declared.instr.Instr.TheVariants as instr
 use Rattle.stack_code.specs.declared.code.Variable.{Variable}
@@ -10,9 +12,8 @@ use Rattle.stack_code.specs.Machine.{conversions, text_at}
 
 -- ---- variables
 
--- an array parameter keeps the place and the length of the caller's array
 abbrev pub words_of_variable : Variable → ℕ
-words_of_variable x = if x.array_param then 2 else unwrap_or x.length 1
+words_of_variable x = words_taken x.array_param x.length
 
 abbrev pub words_of_all : List Variable → ℕ
 words_of_all [] = 0
@@ -40,7 +41,8 @@ is_array_param_at place x = x.place == place && x.array_param
 abbrev pub is_whole_at : ℕ → ℕ → Variable → Bool
 is_whole_at place len x = x.place == place && not x.array_param && words_of_variable x == len
 
--- An instruction names a variable as what it is. None but ParamAt and ParamArray names an array parameter, and these only read it.
+-- An instruction names a variable as what it is. None but ParamAt and ParamArray names an array parameter, and these
+-- only read it.
 abbrev pub names_fit : List Variable → List Variable → Instr → Bool
 names_fit globals slots (instr.GlobalPlace place) = list_any (is_scalar_at place) globals
 names_fit globals slots (instr.LocalPlace place) = list_any (is_scalar_at place) slots
@@ -110,7 +112,8 @@ values n = replicate n Value
 
 abbrev pub operands_of : List Variable → List Operand
 operands_of [] = []
-operands_of (x ∷ xs) = elim x.array_param [ true ↦ ArrayPlace ∷ ArrayLength ∷ operands_of xs | false ↦ Value ∷ operands_of xs ]
+operands_of (x ∷ xs) =
+    elim x.array_param [ true ↦ ArrayPlace ∷ ArrayLength ∷ operands_of xs | false ↦ Value ∷ operands_of xs ]
 
 abbrev pub operands_by : Option FunctionCode → List Operand
 operands_by None = []
@@ -119,7 +122,8 @@ operands_by (Some f) = operands_of (params_of f)
 -- ---- runs over the kinds of operands
 
 module _ (code : Code) (f : FunctionCode) where
-  -- What an instruction takes and gives, and where it leads: it finds what it takes, and so does what follows. At a Line there are no operands, and at a Return there is one value.
+  -- What an instruction takes and gives, and where it leads: it finds what it takes, and so does what follows. At a
+  -- Line there are no operands, and at a Return there is one value.
   abbrev pub follows : Instr → ℕ → List Operand → (ℕ → List Operand → Bool) → Bool
   follows (instr.Line line) p s next = is_empty s && next (p + 1) s
   follows (instr.Push bits) p s next = next (p + 1) (Value ∷ s)
@@ -141,9 +145,11 @@ module _ (code : Code) (f : FunctionCode) where
   follows (instr.Jump target) p s next = next target s
   follows (instr.JumpZero target) p s next = taking (Value ∷ []) s (λ t. next (p + 1) t && next target t)
   follows (instr.Zero base len) p s next = next (p + 1) s
-  follows (instr.Call function) p s next = taking (operands_by (slice_get code.functions function)) s (λ t. next (p + 1) (Value ∷ t))
+  follows (instr.Call function) p s next =
+      taking (operands_by (slice_get code.functions function)) s (λ t. next (p + 1) (Value ∷ t))
   follows instr.Return p s next = taking (Value ∷ []) s is_empty
-  follows (instr.Send words) p s next = nat_le 1 words && nat_le words 8 && taking (values (words + 2)) s (λ t. next (p + 1) (Value ∷ t))
+  follows (instr.Send words) p s next =
+      nat_le 1 words && nat_le words 8 && taking (values (words + 2)) s (λ t. next (p + 1) (Value ∷ t))
   follows instr.Receive p s next = taking (Value ∷ []) s (λ t. next (p + 1) (Value ∷ t))
   follows instr.Word p s next = taking (Value ∷ []) s (λ t. next (p + 1) (Value ∷ t))
   follows instr.Words p s next = next (p + 1) (Value ∷ s)
@@ -151,7 +157,8 @@ module _ (code : Code) (f : FunctionCode) where
   follows instr.Via p s next = next (p + 1) (Value ∷ s)
   follows instr.SelfNo p s next = next (p + 1) (Value ∷ s)
   follows instr.Count p s next = next (p + 1) (Value ∷ s)
-  follows (instr.Print text) p s next = nat_lt text (length code.texts) && taking (values (conversions (text_at code 0 0 text))) s (λ t. next (p + 1) (Value ∷ t))
+  follows (instr.Print text) p s next = nat_lt text (length code.texts)
+      && taking (values (conversions (text_at code 0 0 text))) s (λ t. next (p + 1) (Value ∷ t))
 
   abbrev pub follows_if_any : Option Placed → ℕ → List Operand → (ℕ → List Operand → Bool) → Bool
   follows_if_any None p s next = false
@@ -164,7 +171,8 @@ module _ (code : Code) (f : FunctionCode) where
 
 -- every way through a function, from its beginning on
 abbrev pub FindsOperands : Code → Type 0
-FindsOperands code = (g : ℕ) (f : FunctionCode) → slice_get code.functions g ≡ Some f → (n : ℕ) → IsTrue (finds code f n 0 [])
+FindsOperands code =
+    (g : ℕ) (f : FunctionCode) → slice_get code.functions g ≡ Some f → (n : ℕ) → IsTrue (finds code f n 0 [])
 
 -- ---- limits
 
@@ -187,13 +195,14 @@ is_within code =
     nat_le (length code.functions) 512
     && is_main (slice_get code.functions code.main)
     && list_all (λ t. nat_le (length t) 509) code.texts
-    && nat_le (length code.globals) 65536
+    && nat_le (length code.globals) MAX_DATA_WORDS
     && laid_out_from 0 code.variables
     && length code.globals == words_of_all code.variables
     && list_all (λ x. not x.array_param) code.variables
     && list_all is_fit_function code.functions
 
--- whatever way control takes: a jump back leads to a Line, each function begins with one, calls name functions, and operands are found
+-- whatever way control takes: a jump back leads to a Line, each function begins with one, calls name functions, and
+-- operands are found
 pub record IsSound (code : Code) : Type 0 where
   pub forward : GoesForward code
   pub operands : FindsOperands code

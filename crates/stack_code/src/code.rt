@@ -78,7 +78,7 @@ pub struct Code {
 
 impl Code {
     ghost use Rattle.std.specs.Prelude.{◌≡◌, ℕ, ◌<◌, ◌≤◌, length, Some, slice_get, option_map, IfOk};
-    ghost use Rattle.stack_code.specs.View.{code_of};
+    ghost use Rattle.stack_code.specs.View.{seen_code};
     ghost use Rattle.stack_code.specs.Seek.{found, found_at, found_global, IsPlaceIn};
     ghost use Rattle.stack_code.specs.Code.{steps_of};
     ghost use Rattle.stack_code.specs.Together.{all_steps, start_of};
@@ -97,7 +97,8 @@ impl Code {
         requires sound { ∥ IsSound (view_of functions.items main texts globals.items variables.items) ∥₁ }
         requires within { IsTrue (is_within (view_of functions.items main texts globals.items variables.items)) }
         requires kept { IsTrue (list_all is_kept functions.items) }
-        ensures { IfOk result (λ code. code_of code ≡ view_of functions.items main texts globals.items variables.items) }
+        ensures { IfOk result
+            (λ code. seen_code code ≡ view_of functions.items main texts globals.items variables.items) }
     {
         let layout = Layout::of(alloc, functions)?;
         Ok(Code {
@@ -111,52 +112,53 @@ impl Code {
 
     /// The number of functions.
     pub fn functions(&self) -> u32
-        ensures { result ≡ length (code_of self.now).functions }
+        ensures { result ≡ length (seen_code self.now).functions }
     {
         self.layout.functions.len() as u32
     }
 
     /// The name of a function; `i` is below `functions`.
     pub fn function_name(&self, i: u32) -> &str
-        requires { i < length (code_of self.now).functions }
-        ensures { option_map (λ f. f.name) (slice_get (code_of self.now).functions i) ≡ Some result.now }
+        requires { i < length (seen_code self.now).functions }
+        ensures { option_map (λ f. f.name) (slice_get (seen_code self.now).functions i) ≡ Some result.now }
     {
         self.layout.functions[i as usize].name.as_str()
     }
 
     /// The line of `main`'s name.
     pub fn main_line(&self) -> u32
-        ensures { option_map (λ f. f.line) (slice_get (code_of self.now).functions (code_of self.now).main) ≡ Some result }
+        ensures { option_map (λ f. f.line) (slice_get (seen_code self.now).functions (seen_code self.now).main)
+            ≡ Some result }
     {
         self.layout.functions[self.main as usize].line
     }
 
     /// The number of `main`.
     pub fn main(&self) -> u32
-        ensures { result ≡ (code_of self.now).main }
+        ensures { result ≡ (seen_code self.now).main }
     {
         self.main
     }
 
     /// The words of the globals at the start.
     pub fn globals(&self) -> &[u32]
-        ensures { result.now ≡ (code_of self.now).globals }
+        ensures { result.now ≡ (seen_code self.now).globals }
     {
         self.globals.as_slice()
     }
 
     /// The bytes of a text of `printf`; `i` is below the number of texts.
     pub fn text(&self, i: u32) -> &[u8]
-        requires { i < length (code_of self.now).texts }
-        ensures { slice_get (code_of self.now).texts i ≡ Some result.now }
+        requires { i < length (seen_code self.now).texts }
+        ensures { slice_get (seen_code self.now).texts i ≡ Some result.now }
     {
         self.texts.as_slice()[i as usize].as_slice()
     }
 
     /// What a call of a function needs; `i` is below `functions`.
     pub fn frame(&self, i: u32) -> FunctionFrame
-        requires { i < length (code_of self.now).functions }
-        ensures { option_map frame_of (slice_get (code_of self.now).functions i) ≡ Some result }
+        requires { i < length (seen_code self.now).functions }
+        ensures { option_map frame_of (slice_get (seen_code self.now).functions i) ≡ Some result }
     {
         let function = &self.layout.functions[i as usize];
         FunctionFrame {
@@ -169,39 +171,39 @@ impl Code {
     /// Where the instructions of a function begin among those of all functions; `function` is below
     /// `functions`.
     pub fn start(&self, function: u32) -> u32
-        requires { function < length (code_of self.now).functions }
-        ensures { result ≡ start_of (code_of self.now) function }
+        requires { function < length (seen_code self.now).functions }
+        ensures { result ≡ start_of (seen_code self.now) function }
     {
         self.layout.functions[function as usize].start
     }
 
     /// An instruction by its place among those of all functions; there is one at that place.
     pub fn fetch(&self, place: usize) -> Instr
-        requires { place < length (all_steps (code_of self.now)) }
-        ensures { option_map (λ x. x.instr) (slice_get (all_steps (code_of self.now)) place) ≡ Some result }
+        requires { place < length (all_steps (seen_code self.now)) }
+        ensures { option_map (λ x. x.instr) (slice_get (all_steps (seen_code self.now)) place) ≡ Some result }
     {
         self.layout.instrs[place]
     }
 
     /// An instruction of a function; there is one at that place.
     pub fn instr(&self, function: u32, place: u32) -> Instr
-        requires { place < length (steps_of (code_of self.now) function) }
-        ensures { option_map (λ x. x.instr) (slice_get (steps_of (code_of self.now) function) place) ≡ Some result }
+        requires { place < length (steps_of (seen_code self.now) function) }
+        ensures { option_map (λ x. x.instr) (slice_get (steps_of (seen_code self.now) function) place) ≡ Some result }
     {
         self.fetch(self.start(function) as usize + place as usize)
     }
 
     /// How many instructions a function has; `function` is below `functions`.
     pub fn steps(&self, function: u32) -> usize
-        requires { function < length (code_of self.now).functions }
-        ensures { result ≡ length (steps_of (code_of self.now) function) }
+        requires { function < length (seen_code self.now).functions }
+        ensures { result ≡ length (steps_of (seen_code self.now) function) }
     {
         self.layout.functions[function as usize].len as usize
     }
 
     /// At least as many as any function has instructions.
     pub fn longest(&self) -> usize
-        ensures { (f : ℕ) → length (steps_of (code_of self.now) f) ≤ result }
+        ensures { (f : ℕ) → length (steps_of (seen_code self.now) f) ≤ result }
     {
         let mut longest = 0;
         for function in &self.layout.functions {
@@ -214,8 +216,8 @@ impl Code {
     /// that instruction, from the innermost, then among the function's parameters, then among the
     /// globals. Without a place it looks among the globals alone.
     pub fn seek(&self, at: Option<CodePlace>, name: &[u8]) -> Option<Found>
-        requires { IsPlaceIn (code_of self.now) at }
-        ensures { result ≡ found (code_of self.now) at name.now }
+        requires { IsPlaceIn (seen_code self.now) at }
+        ensures { result ≡ found (seen_code self.now) at name.now }
     {
         match self.seek_at(at, name) {
             Some(found) => Some(found),
@@ -224,8 +226,8 @@ impl Code {
     }
 
     fn seek_at(&self, at: Option<CodePlace>, name: &[u8]) -> Option<Found>
-        requires { IsPlaceIn (code_of self.now) at }
-        ensures { result ≡ found_at (code_of self.now) at name.now }
+        requires { IsPlaceIn (seen_code self.now) at }
+        ensures { result ≡ found_at (seen_code self.now) at name.now }
     {
         match at {
             Some(at) => {
@@ -238,7 +240,7 @@ impl Code {
     }
 
     fn seek_global(&self, name: &[u8]) -> Option<Found>
-        ensures { result ≡ found_global (code_of self.now) name.now }
+        ensures { result ≡ found_global (seen_code self.now) name.now }
     {
         match named(self.variables.as_slice(), name) {
             Some(variable) => Some(global_found(variable)),

@@ -71,7 +71,8 @@ impl Layout {
     fn push(&mut self, function: CodeFunction) -> Result<(), WantOfMemory>
         requires laid { IsTrue (is_laid_out self.old.functions.items self.old.instrs.items self.old.inside.items) }
         requires kept { IsTrue (is_kept function) }
-        ensures laid { OnOk result (IsTrue (is_laid_out self.new.functions.items self.new.instrs.items self.new.inside.items)) }
+        ensures laid { OnOk result
+            (IsTrue (is_laid_out self.new.functions.items self.new.instrs.items self.new.inside.items)) }
         ensures same { OnOk result (functions_in self.new ≡ functions_in self.old ++ function_of function ∷ []) }
     {
         let CodeFunction {
@@ -115,7 +116,8 @@ impl LaidFunction {
         requires nest { IsTrue (blocks_nest 0 self.now.blocks.items) }
         requires known { block ≤ length self.now.blocks.items }
         requires few { self.now.param_count ≤ length self.now.slots.items }
-        ensures { result ≡ found_among self.now.slots.items self.now.param_count (entered_in (table_of self.now.blocks.items) block) name.now }
+        ensures { result ≡ found_among self.now.slots.items self.now.param_count
+            (entered_in (table_of self.now.blocks.items) block) name.now }
     {
         if let Some(local) = self.local_at(block, name) {
             return Some(local_found(local));
@@ -130,7 +132,8 @@ impl LaidFunction {
     fn local_at(&self, block: u32, name: &[u8]) -> Option<&Variable>
         requires nest { IsTrue (blocks_nest 0 self.now.blocks.items) }
         requires known { block ≤ length self.now.blocks.items }
-        ensures { option_copied result ≡ in_blocks name.now self.now.slots.items (entered_in (table_of self.now.blocks.items) block) }
+        ensures { option_copied result ≡ in_blocks name.now self.now.slots.items
+            (entered_in (table_of self.now.blocks.items) block) }
     {
         let mut number = block;
         while number > 0 {

@@ -1,4 +1,4 @@
-use Rattle.c_compile.specs.Emitted.{shape_of}
+use Rattle.c_compile.specs.private.Emitted.{shape_of}
 use Rattle.c_compile.proofs.Functions.{body_written}
 use Rattle.c_compile.proofs.function.emit_body.Goals as goal
 

@@ -2,7 +2,7 @@ use Rattle.std.proofs.Common.{◌+◌, ap, ◌∙◌, length, refl, arith}
 use Rattle.std.specs.Prelude.{string_bytes}
 use Rattle.c_tree.specs.Storage.{words_of, words_of_slot}
 use Rattle.stack_code.specs.declared.code.CodeFunction.{CodeFunction}
-use Rattle.c_compile.specs.Body.{steps_of}
+use Rattle.c_compile.specs.private.Body.{steps_of}
 use Rattle.c_compile.proofs.Making.{words_both}
 use Rattle.c_compile.proofs.Functions.{function_is, function_kept, frame_is}
 use Rattle.c_compile.proofs.function.emit_function.Goals as goal

@@ -1,8 +1,8 @@
 use Rattle.std.proofs.Common.{List, ap, ◌∙◌, subst, map}
 use Rattle.c_tree.specs.declared.program.Start.{Start}
 use Rattle.c_tree.specs.declared.program.PStmt.{PStmt}
-use Rattle.c_compile.specs.Emitted.{after, shape_of, code_of_inside}
-use Rattle.c_compile.specs.Body.{steps_of, blocks_of, Wrote}
+use Rattle.c_compile.specs.private.Emitted.{after, shape_of, code_of_inside}
+use Rattle.c_compile.specs.private.Body.{steps_of, blocks_of, Wrote}
 use Rattle.c_compile.proofs.Functions.{outermost_steps, outermost_blocks, plain_steps, plain_inside}
 use Rattle.c_compile.proofs.function.emit_outermost.Goals as goal
 

@@ -2,10 +2,10 @@ use Rattle.std.proofs.Common.{ap, ◌∙◌, arith}
 use Rattle.c_tree.specs.Storage.{first_words, words_of, words_of_global}
 use Rattle.c_compile.specs.Variables.{globals_from}
 use Rattle.stack_code.specs.Blocks.{view_of}
-use Rattle.stack_code.specs.View.{code_of}
+use Rattle.stack_code.specs.View.{seen_code}
 use Rattle.c_compile.proofs.ProgramStacks.{sound_by, within_by}
 use Rattle.c_compile.proofs.Compiled.{globals_fit, view_is, stands_by}
-use Rattle.c_compile.proofs.Names.{tells_names}
+use Rattle.c_compile.proofs.Names.{keeps_names}
 use Rattle.c_compile.proofs.program.compile.Goals as goal
 
 pub global_variables-requires : goal.global_variables-requires
@@ -43,6 +43,6 @@ returns c =
     c.in_ok-functions.ensures.code copies words variables in
     record {
       code = same;
-      stands = stands_by p.globals p.functions p.texts p.main (code_of c.in_ok-code.code) p.checked same;
-      names = tells_names p (code_of c.in_ok-code.code) same;
+      stands = stands_by p.globals p.functions p.texts p.main (seen_code c.in_ok-code.code) p.checked same;
+      names = keeps_names p (seen_code c.in_ok-code.code) same;
     }

@@ -4,8 +4,8 @@ use Rattle.c_tree.specs.declared.program.PStmt.{PStmt, If}
 use Rattle.stack_code.specs.declared.instr.Instr.TheVariants as instr
 use Rattle.c_compile.specs.Asm.{Laid, ◌⨾◌}
 use Rattle.c_compile.specs.StmtCode.{Blocks, stmt_code, put, if_code, while_code, do_code, for_code}
-use Rattle.c_compile.specs.Emitted.{shape_of, code_of_stmt, code_of_list, code_of_arms, code_of_inside}
-use Rattle.c_compile.specs.Body.{Wrote}
+use Rattle.c_compile.specs.private.Emitted.{shape_of, code_of_stmt, code_of_list, code_of_arms, code_of_inside}
+use Rattle.c_compile.specs.private.Body.{Wrote}
 use Rattle.c_compile.proofs.Bodies.{onward_start, wrote_block}
 use Rattle.c_compile.proofs.Writing.{named, loop_end}
 use Rattle.c_compile.proofs.Written.{code_block, code_if, code_if_else, code_while, code_do, code_for, list_none, list_more, arms_none, arms_more, inside_written, if_written, if_else_written}

@@ -3,7 +3,7 @@ use Rattle.std.specs.Prelude.{max}
 use denote.Param.Weighed.{most}
 use Rattle.c_tree.specs.declared.program.PStmt.{size-PStmt}
 use Rattle.c_tree.specs.declared.program.PArm.{size-PArm}
-use Rattle.c_compile.specs.Emitted.{shape_of, code_of_list, code_of_arms}
+use Rattle.c_compile.specs.private.Emitted.{shape_of, code_of_list, code_of_arms}
 use Rattle.c_compile.proofs.Bodies.{Onward}
 use Rattle.c_compile.proofs.stmt.+stmt.Given as goal
 

@@ -1,4 +1,4 @@
-use Rattle.c_compile.specs.Emitted.{shape_of}
+use Rattle.c_compile.specs.private.Emitted.{shape_of}
 use Rattle.c_compile.proofs.Written.{return_written}
 use Rattle.c_compile.proofs.stmt.emit_return.Goals as goal
 

@@ -1,7 +1,7 @@
 use Rattle.std.proofs.Common.{◌≡◌, length, arith, ap, sym, ◌∙◌}
 use Rattle.std.specs.List.{list_any}
 use Rattle.c_tree.specs.Stmt.{is_default}
-use Rattle.c_compile.specs.Emitted.{shape_of, end_of_list}
+use Rattle.c_compile.specs.private.Emitted.{shape_of, end_of_list}
 use Rattle.c_compile.proofs.Writing.{default_here, default_later, default_none}
 use Rattle.c_compile.proofs.stmt_parts.default_place.Goals as goal
 

@@ -1,5 +1,5 @@
 use Rattle.std.proofs.Common.{◌≡◌, drop}
-use Rattle.c_compile.specs.Emitted.{shape_of, default_place_of}
+use Rattle.c_compile.specs.private.Emitted.{shape_of, default_place_of}
 use Rattle.c_compile.proofs.stmt_parts.default_place.Given as goal
 
 abbrev pub invariant-loop-arm : goal.invariant-loop-arm

@@ -1,6 +1,6 @@
 use Rattle.std.proofs.Common.{◌≡◌, length, arith, ap, ◌∙◌, subst}
-use Rattle.c_compile.specs.Emitted.{shape_of, code_of_cases, code_of_labels, end_of_list}
-use Rattle.c_compile.specs.Body.{Wrote}
+use Rattle.c_compile.specs.private.Emitted.{shape_of, code_of_cases, code_of_labels, end_of_list}
+use Rattle.c_compile.specs.private.Body.{Wrote}
 use Rattle.c_compile.proofs.Bodies.{onward_start}
 use Rattle.c_compile.proofs.Writing.{cases_end, cases_more}
 use Rattle.c_compile.proofs.stmt_parts.put_cases.Goals as goal

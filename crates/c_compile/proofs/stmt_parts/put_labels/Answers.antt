@@ -2,7 +2,7 @@ use Rattle.std.proofs.Common.{◌≡◌, [], None, get_or, length, arith}
 use Rattle.std.proofs.lemmas.List.{get_or_default}
 use Rattle.c_tree.specs.declared.program.PLabel.{PLabel}
 use Rattle.c_compile.specs.ExprCode.{Shape}
-use Rattle.c_compile.specs.Emitted.{code_of_labels}
+use Rattle.c_compile.specs.private.Emitted.{code_of_labels}
 use Rattle.c_compile.proofs.Bodies.{onward_start}
 use Rattle.c_compile.proofs.Writing.{loop_end, labels_none, labels_more}
 use Rattle.c_compile.proofs.stmt_parts.put_labels.Goals as goal

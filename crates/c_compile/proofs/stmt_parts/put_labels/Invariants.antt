@@ -1,7 +1,7 @@
 use Rattle.std.proofs.Common.{drop}
 use Rattle.c_compile.specs.ExprCode.{Shape}
-use Rattle.c_compile.specs.Emitted.{code_of_labels}
-use Rattle.c_compile.specs.Body.{IsLaidOut}
+use Rattle.c_compile.specs.private.Emitted.{code_of_labels}
+use Rattle.c_compile.specs.private.Body.{IsLaidOut}
 use Rattle.c_compile.proofs.Bodies.{Onward}
 use Rattle.c_compile.proofs.stmt_parts.put_labels.Given as goal
 

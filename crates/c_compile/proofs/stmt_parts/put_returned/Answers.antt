@@ -1,5 +1,5 @@
 use Rattle.c_compile.specs.StmtCode.{returned}
-use Rattle.c_compile.specs.Emitted.{shape_of, code_of_value}
+use Rattle.c_compile.specs.private.Emitted.{shape_of, code_of_value}
 use Rattle.c_compile.proofs.Writing.{named, returned_some}
 use Rattle.c_compile.proofs.stmt_parts.put_returned.Goals as goal
 

@@ -1,4 +1,4 @@
-use Rattle.c_compile.specs.Emitted.{shape_of}
+use Rattle.c_compile.specs.private.Emitted.{shape_of}
 use Rattle.c_compile.proofs.Writing.{start_none, start_some}
 use Rattle.c_compile.proofs.stmt_parts.put_start.Goals as goal
 

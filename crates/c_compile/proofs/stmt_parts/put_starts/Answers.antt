@@ -1,5 +1,5 @@
 use Rattle.std.proofs.Common.{◌≡◌, length, arith}
-use Rattle.c_compile.specs.Emitted.{shape_of, code_of_starts}
+use Rattle.c_compile.specs.private.Emitted.{shape_of, code_of_starts}
 use Rattle.c_compile.proofs.Bodies.{onward_start}
 use Rattle.c_compile.proofs.Writing.{loop_end, starts_none, starts_more}
 use Rattle.c_compile.proofs.stmt_parts.put_starts.Goals as goal

@@ -1,5 +1,5 @@
 use Rattle.std.proofs.Common.{drop}
-use Rattle.c_compile.specs.Emitted.{shape_of, code_of_starts}
+use Rattle.c_compile.specs.private.Emitted.{shape_of, code_of_starts}
 use Rattle.c_compile.proofs.Bodies.{Onward}
 use Rattle.c_compile.proofs.stmt_parts.put_starts.Given as goal
 

@@ -1,4 +1,4 @@
-use Rattle.c_compile.specs.Emitted.{shape_of}
+use Rattle.c_compile.specs.private.Emitted.{shape_of}
 use Rattle.c_compile.proofs.Writing.{test_none, test_some}
 use Rattle.c_compile.proofs.stmt_parts.put_test.Goals as goal
 

@@ -1,6 +1,6 @@
 use Rattle.std.specs.Prelude.{slice_get}
 use Rattle.c_tree.specs.Storage.{words_before, words_of_slot}
-use Rattle.c_compile.specs.Emitted.{shape_of}
+use Rattle.c_compile.specs.private.Emitted.{shape_of}
 use Rattle.c_compile.proofs.Writing.{zero_none}
 use Rattle.c_compile.proofs.stmt_parts.put_zero.Goals as goal
 

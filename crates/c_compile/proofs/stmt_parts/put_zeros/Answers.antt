@@ -1,5 +1,5 @@
 use Rattle.std.proofs.Common.{◌≡◌, length, arith}
-use Rattle.c_compile.specs.Emitted.{shape_of, code_of_zeros}
+use Rattle.c_compile.specs.private.Emitted.{shape_of, code_of_zeros}
 use Rattle.c_compile.proofs.Bodies.{onward_start}
 use Rattle.c_compile.proofs.Writing.{loop_end, zeros_none, zeros_more}
 use Rattle.c_compile.proofs.stmt_parts.put_zeros.Goals as goal

@@ -1,8 +1,8 @@
 use Rattle.std.proofs.Common.{arith, ◌+◌, length, sym, subst}
 use Rattle.std.proofs.lemmas.Result.{err_from_is_err_and}
-use Rattle.c_parser.specs.Reader.{Fails}
-use Rattle.c_parser.specs.ReadStmt.{is_declr_end, separated}
-use Rattle.c_parser.specs.ReadStmt.{declarator}
+use Rattle.c_parser.specs.private.Reader.{Fails}
+use Rattle.c_parser.specs.private.ReadStmt.{is_declr_end, separated}
+use Rattle.c_parser.specs.private.ReadStmt.{declarator}
 use Rattle.c_parser.proofs.Lists.{separates_begin, separates_fail, separates_wrong, separates_end, separates_step}
 use Rattle.c_parser.proofs.decl.declarators.Goals as goal
 

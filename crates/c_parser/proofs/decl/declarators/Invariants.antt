@@ -1,6 +1,6 @@
 use Rattle.std.proofs.Common.{◌+◌, ◌≤◌, length}
-use Rattle.c_parser.specs.ReadStmt.{is_declr_end, separated}
-use Rattle.c_parser.specs.ReadStmt.{declarator}
+use Rattle.c_parser.specs.private.ReadStmt.{is_declr_end, separated}
+use Rattle.c_parser.specs.private.ReadStmt.{declarator}
 use Rattle.c_parser.proofs.Lists.{Separates}
 use Rattle.c_parser.proofs.decl.declarators.Given as goal
 

@@ -1,6 +1,6 @@
 use Rattle.std.proofs.Common.{arith, ◌+◌, length, ◌∙◌}
 use Rattle.std.proofs.lemmas.Result.{err_from_is_err_and}
-use Rattle.c_parser.specs.ReadStmt.{repeated, no_type, local, locals}
+use Rattle.c_parser.specs.private.ReadStmt.{repeated, no_type, local, locals}
 use Rattle.c_parser.proofs.Lists.{repeats_end, repeats_fail, repeats_step}
 use Rattle.c_parser.proofs.Turns.{typed, untyped, local_is, local_fails}
 use Rattle.c_parser.proofs.decl.locals.Goals as goal

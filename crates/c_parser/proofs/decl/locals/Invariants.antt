@@ -1,5 +1,5 @@
 use Rattle.std.proofs.Common.{◌+◌, ◌≤◌, length}
-use Rattle.c_parser.specs.ReadStmt.{repeated, no_type, local}
+use Rattle.c_parser.specs.private.ReadStmt.{repeated, no_type, local}
 use Rattle.c_parser.proofs.Lists.{Repeats}
 use Rattle.c_parser.proofs.decl.locals.Given as goal
 

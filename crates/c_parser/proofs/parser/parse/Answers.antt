@@ -1,5 +1,5 @@
 use Rattle.std.proofs.Common.{arith}
-use Rattle.c_parser.specs.Reader.{Wrong, TooDeep}
+use Rattle.c_parser.specs.private.Reader.{Wrong, TooDeep}
 use Rattle.c_parser.proofs.Answered.{is_unit, is_that, no_unit, wrong_some, deep_nests, wrong_of, deep_of}
 use Rattle.c_parser.proofs.UnitFull.{unit_nests}
 use Rattle.c_parser.proofs.parser.parse.Goals as goal

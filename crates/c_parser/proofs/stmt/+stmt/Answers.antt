@@ -1,8 +1,8 @@
 use Rattle.std.proofs.Common.{arith, ◌+◌, length, sym, ◌∙◌}
 use Rattle.std.proofs.lemmas.Result.{err_from_is_err_and}
 use Rattle.c_lexer.specs.declared.token.Mark.TheVariants.{RightBrace}
-use Rattle.c_parser.specs.Reader.{after}
-use Rattle.c_parser.specs.ReadStmt.{repeated, read_stmt, list_end, statements, arm, arms}
+use Rattle.c_parser.specs.private.Reader.{after}
+use Rattle.c_parser.specs.private.ReadStmt.{repeated, read_stmt, list_end, statements, arm, arms}
 use Rattle.c_parser.proofs.Lists.{repeats_end, repeats_fail, repeats_step}
 use Rattle.c_parser.proofs.Turns.{ends, goes}
 use Rattle.c_parser.proofs.stmt.+stmt.Goals as goal

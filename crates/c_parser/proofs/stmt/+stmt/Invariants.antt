@@ -1,7 +1,7 @@
 use Rattle.std.proofs.Common.{◌+◌, ◌*◌, ◌≤◌, length}
 use Rattle.c_lexer.specs.declared.token.Mark.TheVariants.{RightBrace}
-use Rattle.c_parser.specs.Reader.{after}
-use Rattle.c_parser.specs.ReadStmt.{repeated, read_stmt, arm, list_end}
+use Rattle.c_parser.specs.private.Reader.{after}
+use Rattle.c_parser.specs.private.ReadStmt.{repeated, read_stmt, arm, list_end}
 use Rattle.c_parser.proofs.Lists.{Repeats}
 use Rattle.c_parser.proofs.stmt.+stmt.Given as goal
 

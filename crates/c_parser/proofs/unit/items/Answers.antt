@@ -1,7 +1,7 @@
 use Rattle.std.proofs.Common.{arith, ◌+◌, length, []}
 use Rattle.std.proofs.lemmas.Result.{err_from_is_err_and}
-use Rattle.c_parser.specs.ReadStmt.{repeated}
-use Rattle.c_parser.specs.ReadUnit.{at_end, read_item, read_items}
+use Rattle.c_parser.specs.private.ReadStmt.{repeated}
+use Rattle.c_parser.specs.private.ReadUnit.{at_end, read_item, read_items}
 use Rattle.c_parser.proofs.Lists.{repeats_end, repeats_fail, repeats_step}
 use Rattle.c_parser.proofs.Turns.{more_left, none_left}
 use Rattle.c_parser.proofs.unit.items.Goals as goal

@@ -1,6 +1,6 @@
 use Rattle.std.proofs.Common.{◌+◌, ◌≤◌, length}
-use Rattle.c_parser.specs.ReadStmt.{repeated}
-use Rattle.c_parser.specs.ReadUnit.{at_end, read_item}
+use Rattle.c_parser.specs.private.ReadStmt.{repeated}
+use Rattle.c_parser.specs.private.ReadUnit.{at_end, read_item}
 use Rattle.c_parser.proofs.Lists.{Repeats}
 use Rattle.c_parser.proofs.unit.items.Given as goal
 

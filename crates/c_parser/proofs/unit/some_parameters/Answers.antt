@@ -1,9 +1,9 @@
 use Rattle.std.proofs.Common.{arith, ◌+◌, length, sym, subst}
 use Rattle.std.proofs.lemmas.Result.{err_from_is_err_and}
-use Rattle.c_parser.specs.Reader.{Fails}
-use Rattle.c_parser.specs.ReadStmt.{separated}
-use Rattle.c_parser.specs.ReadExpr.{is_separator}
-use Rattle.c_parser.specs.ReadUnit.{parameter}
+use Rattle.c_parser.specs.private.Reader.{Fails}
+use Rattle.c_parser.specs.private.ReadStmt.{separated}
+use Rattle.c_parser.specs.private.ReadExpr.{is_separator}
+use Rattle.c_parser.specs.private.ReadUnit.{parameter}
 use Rattle.c_parser.proofs.Lists.{separates_begin, separates_fail, separates_wrong, separates_end, separates_step}
 use Rattle.c_parser.proofs.unit.some_parameters.Goals as goal
 

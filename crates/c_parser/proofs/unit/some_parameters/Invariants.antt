@@ -1,7 +1,7 @@
 use Rattle.std.proofs.Common.{◌+◌, ◌≤◌, length}
-use Rattle.c_parser.specs.ReadStmt.{separated}
-use Rattle.c_parser.specs.ReadExpr.{is_separator}
-use Rattle.c_parser.specs.ReadUnit.{parameter}
+use Rattle.c_parser.specs.private.ReadStmt.{separated}
+use Rattle.c_parser.specs.private.ReadExpr.{is_separator}
+use Rattle.c_parser.specs.private.ReadUnit.{parameter}
 use Rattle.c_parser.proofs.Lists.{Separates}
 use Rattle.c_parser.proofs.unit.some_parameters.Given as goal
 

@@ -4,7 +4,7 @@ use Rattle.std.proofs.lemmas.List.{length-map}
 use Rattle.std.proofs.lemmas.Option.{slice_get-map, slice_get_read}
 use Rattle.c_checker.specs.declared.entries.Held.{Held}
 use Rattle.c_checker.specs.Scope as spec
-use Rattle.c_checker.specs.Places.{entries_of}
+use Rattle.c_checker.specs.private.Places.{entries_of}
 use Rattle.c_checker.proofs.Places.{latest_none, latest_some, place_within}
 use Rattle.c_checker.proofs.entries.Entries.find.Goals as goal
 

@@ -1,6 +1,6 @@
 use Rattle.std.proofs.Common.{subst, sym}
 use Rattle.std.specs.Prelude.{IsSome}
-use Rattle.c_checker.specs.Places.{place_in, Keeps}
+use Rattle.c_checker.specs.private.Places.{place_in, Keeps}
 use Rattle.c_checker.proofs.Places.{last_is_there, keeps_pop}
 use Rattle.c_checker.proofs.entries.Entries.pop.Goals as goal
 

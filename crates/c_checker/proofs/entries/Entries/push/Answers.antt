@@ -1,7 +1,7 @@
 use Rattle.std.proofs.Common.{◌≡◌, List, ℕ, Some, cond, length, subst, sym, ap, ◌∙◌, arith}
 use Rattle.std.specs.Str.{bytes_eq}
 use Rattle.c_checker.specs.declared.entries.Held.{Held}
-use Rattle.c_checker.specs.Places.{place, place_in, entries_of, Keeps}
+use Rattle.c_checker.specs.private.Places.{place, place_in, entries_of, Keeps}
 use Rattle.c_checker.proofs.Places.{keeps_push}
 use Rattle.c_checker.proofs.entries.Entries.push.Goals as goal
 

@@ -1,5 +1,5 @@
 use Rattle.std.proofs.Common.{refl, ◌∙◌}
-use Rattle.c_compile.specs.Emitted.{shape_of}
+use Rattle.c_compile.specs.private.Emitted.{shape_of}
 use Rattle.c_compile.specs.declared.body.Body.{Body}
 use Rattle.c_compile.proofs.Tables.{value_wrote}
 use Rattle.c_compile.proofs.body.Body.put_value.Goals as goal

@@ -1,8 +1,8 @@
 use Rattle.std.proofs.Common.{[], refl, sym, ap, ◌∙◌, subst, arith}
 use Rattle.nm_base.specs.Scripts.{Script}
 use Rattle.c_tree.specs.Play.{script_of}
-use Rattle.stack_code.specs.View.{code_of}
-use Rattle.proc_machine.specs.Machines.{Setting, next_of}
+use Rattle.stack_code.specs.View.{seen_code}
+use Rattle.proc_machine.specs.Machines.{MachineSetting, next_of}
 use Rattle.proc_machine.specs.Pauses.{status_of}
 use Rattle.c_process.specs.Shown.{look_of}
 use Rattle.c_process.specs.Standing.{IsCodeOf}
@@ -12,10 +12,10 @@ use Rattle.c_process.proofs.Standing.{begins}
 use Rattle.c_process.proofs.process.CProc.new.Goals as goal
 
 pub invariant_of-result-clause-runs : goal.invariant_of-result-clause-runs
-invariant_of-result-clause-runs c = ap (λ (set : Setting). set.code) c.in_ok-machine.ensures.setting
+invariant_of-result-clause-runs c = ap (λ (set : MachineSetting). set.code) c.in_ok-machine.ensures.setting
 
 pub invariant_of-result-clause-named : goal.invariant_of-result-clause-named
-invariant_of-result-clause-named c = ap (λ (set : Setting). set.me) c.in_ok-machine.ensures.setting
+invariant_of-result-clause-named c = ap (λ (set : MachineSetting). set.me) c.in_ok-machine.ensures.setting
 
 pub invariant_of-result-clause-few : goal.invariant_of-result-clause-few
 invariant_of-result-clause-few c = omega (arith, c.in_ok-machine.ensures.sent)
@@ -30,10 +30,10 @@ returns-clause-stands c = λ p is.
     let m = c.in_ok-machine.machine in
     let ok = c.in_ok-machine.ensures in
     let looks = c.look_at-look.ensures.looks [] refl ∙ ap (λ q. look_of (status_of q) []) c.pending.ensures.same in
-    let code = subst (λ (set : Setting). IsCodeOf p set.code) (sym ok.setting) is in
+    let code = subst (λ (set : MachineSetting). IsCodeOf p set.code) (sym ok.setting) is in
     let start = begins m c.look_at-look.result p ok.stands looks code in
-    let script = ap (λ (set : Setting). script_of p set.count set.me.no) ok.setting in
+    let script = ap (λ (set : MachineSetting). script_of p set.count set.me.no) ok.setting in
     (subst (λ (s : Script). Follows m c.look_at-look.result s [] 0) script start, refl)
 
 pub returns-clause-origin : goal.returns-clause-origin
-returns-clause-origin c = ap (λ (set : Setting). (code_of c.args.code.now, set.count)) c.in_ok-machine.ensures.setting
+returns-clause-origin c = ap (λ (set : MachineSetting). (seen_code c.args.code.now, set.count)) c.in_ok-machine.ensures.setting

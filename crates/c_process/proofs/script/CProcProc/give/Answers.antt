@@ -1,6 +1,6 @@
 use Rattle.std.proofs.Common.{◌≡◌, ◌+◌, [], ◌∷◌, ◌++◌, ap, ◌∙◌, arith}
 use Rattle.nm_base.specs.Message.{message_of}
-use Rattle.proc_machine.specs.Machines.{Setting, next_of}
+use Rattle.proc_machine.specs.Machines.{MachineSetting, next_of}
 use Rattle.proc_machine.specs.Pauses.{status_of}
 use Rattle.c_process.specs.Shown.{look_of}
 use Rattle.c_process.proofs.Looks.{takes_accepts, accepts_same, looks_again}
@@ -13,12 +13,12 @@ accept-kind-requires c = takes_accepts c.args.self.now.look (next_of c.args.self
 pub invariant_of-self-clause-runs : goal.invariant_of-self-clause-runs
 invariant_of-self-clause-runs c =
     let t = takes_accepts c.args.self.now.look (next_of c.args.self.now.machine) c.args.letter c.args.self.now.seen c.requires.waiting in
-    ap (λ (set : Setting). set.code) (c.accept-kind.ensures t.0 t.1).setting ∙ c.args.self.now.runs
+    ap (λ (set : MachineSetting). set.code) (c.accept-kind.ensures t.0 t.1).setting ∙ c.args.self.now.runs
 
 pub invariant_of-self-clause-named : goal.invariant_of-self-clause-named
 invariant_of-self-clause-named c =
     let t = takes_accepts c.args.self.now.look (next_of c.args.self.now.machine) c.args.letter c.args.self.now.seen c.requires.waiting in
-    ap (λ (set : Setting). set.me) (c.accept-kind.ensures t.0 t.1).setting ∙ c.args.self.now.named
+    ap (λ (set : MachineSetting). set.me) (c.accept-kind.ensures t.0 t.1).setting ∙ c.args.self.now.named
 
 pub invariant_of-self-clause-few : goal.invariant_of-self-clause-few
 invariant_of-self-clause-few c =

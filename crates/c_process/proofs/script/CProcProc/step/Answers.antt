@@ -1,6 +1,6 @@
 use Rattle.std.proofs.Common.{◌≡◌, ◌+◌, true, ◌∷◌, ap, ◌∙◌, arith}
 use Rattle.std.specs.Prelude.{Result, Ok, Err, OnErr}
-use Rattle.proc_machine.specs.Machines.{Setting, next_of}
+use Rattle.proc_machine.specs.Machines.{MachineSetting, next_of}
 use Rattle.proc_machine.specs.Pauses.{status_of}
 use Rattle.proc_machine.specs.Standing.{goes_by_itself}
 use Rattle.c_process.specs.Shown.{look_of}
@@ -28,11 +28,11 @@ advance-kind-requires-clause-few c = omega (arith, c.reserve_output.ensures.same
 
 pub invariant_of-self-2-clause-runs : goal.invariant_of-self-2-clause-runs
 invariant_of-self-2-clause-runs c =
-    ap (λ (set : Setting). set.code) (c.advance-kind.ensures.made.setting ∙ c.reserve_output.ensures.same.setting) ∙ c.args.self.now.runs
+    ap (λ (set : MachineSetting). set.code) (c.advance-kind.ensures.made.setting ∙ c.reserve_output.ensures.same.setting) ∙ c.args.self.now.runs
 
 pub invariant_of-self-2-clause-named : goal.invariant_of-self-2-clause-named
 invariant_of-self-2-clause-named c =
-    ap (λ (set : Setting). set.me) (c.advance-kind.ensures.made.setting ∙ c.reserve_output.ensures.same.setting) ∙ c.args.self.now.named
+    ap (λ (set : MachineSetting). set.me) (c.advance-kind.ensures.made.setting ∙ c.reserve_output.ensures.same.setting) ∙ c.args.self.now.named
 
 pub invariant_of-self-2-clause-few : goal.invariant_of-self-2-clause-few
 invariant_of-self-2-clause-few c = omega (arith, c.advance-kind.ensures.made.sent, c.reserve_output.ensures.same.sent, c.args.self.now.few)

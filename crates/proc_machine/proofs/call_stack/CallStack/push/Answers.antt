@@ -1,5 +1,5 @@
 use Rattle.std.proofs.Common.{◌<◌, length, ap, arith}
-use Rattle.proc_machine.specs.Stacked.{Calls}
+use Rattle.proc_machine.specs.private.Stacked.{Calls}
 use Rattle.proc_machine.proofs.Upper.{room_for_one}
 use Rattle.proc_machine.proofs.call_stack.CallStack.push.Goals as goal
 

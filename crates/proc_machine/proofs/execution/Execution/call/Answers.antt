@@ -1,6 +1,6 @@
 use Rattle.std.proofs.Common.{◌≤◌, length, refl, sym, ap, ◌∙◌, arith}
 use Rattle.c_tree.specs.State.{Done}
-use Rattle.stack_code.specs.View.{code_of}
+use Rattle.stack_code.specs.View.{seen_code}
 use Rattle.proc_machine.specs.View.{control_of, data_with}
 use Rattle.proc_machine.proofs.Calling.{is_deep, is_low, is_full, has_space, called_deep, called_full, called_goes, params_are, call_keeps}
 use Rattle.proc_machine.proofs.execution.Execution.call.Goals as goal
@@ -29,7 +29,7 @@ returns c =
       λ events. called_goes e c.args.function f c.start.result _ c.frame-frame.ensures low space few events
           ∙ ap (λ x. Done (control_of x) (data_with x events 0)) (sym c.open_frame.ensures),
       call_keeps
-          (code_of c.args.at.code.now) c.args.function c.start.result f e c.open_frame.new.self c.start.ensures c.open_frame.ensures c.frame-frame.ensures (omega (arith, c.if-len-frame-gt-WORDS_LIMIT.false, c.len.ensures.same)),
+          (seen_code c.args.at.code.now) c.args.function c.start.result f e c.open_frame.new.self c.start.ensures c.open_frame.ensures c.frame-frame.ensures (omega (arith, c.if-len-frame-gt-WORDS_LIMIT.false, c.len.ensures.same)),
       ap
           (λ x. x.sent) c.open_frame.ensures,
     )

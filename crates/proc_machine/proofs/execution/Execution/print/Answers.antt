@@ -2,14 +2,14 @@ use Rattle.std.proofs.Common.{◌≡◌, ◌<◌, ◌≤◌, ◌^◌, ℕ, List,
 use Rattle.std.specs.Prelude.{unwrap_or, slice_index, slice_get}
 use Rattle.c_tree.specs.Print.{printed}
 use Rattle.stack_code.specs.Machine.{conversions}
-use Rattle.stack_code.specs.View.{code_of}
+use Rattle.stack_code.specs.View.{seen_code}
 use Rattle.proc_machine.proofs.Sending.{print_pauses, print_faults, is_below, taken_words, has_room, no_room}
 use Rattle.proc_machine.proofs.execution.Execution.print.Goals as goal
 
 pub printed_length-length-requires-clause-words : goal.printed_length-length-requires-clause-words
 printed_length-length-requires-clause-words c =
     let own = c.args.self.now.calls.own in
-    let n : c.conversions.result ≡ conversions (unwrap_or (slice_get (code_of c.args.at.code.now).texts c.args.text) []) = c.conversions.ensures
+    let n : c.conversions.result ≡ conversions (unwrap_or (slice_get (seen_code c.args.at.code.now).texts c.args.text) []) = c.conversions.ensures
     ∙ ap (λ o. conversions (unwrap_or o [])) (sym c.text-bytes.ensures) in
     let some : c.conversions.result ≤ length own = omega (arith, n, c.requires.some) in
     let words : (j : ℕ) → j < c.conversions.result → slice_index own j < 2 ^ 32 = λ j h. c.requires.words j (is_below j _ (omega (arith, h, n))) in
@@ -26,7 +26,7 @@ pub returns-then-saturating_add-le-OUTPUT_LIMIT : goal.returns-then-saturating_a
 returns-then-saturating_add-le-OUTPUT_LIMIT c =
     let e = c.args.self.now in
     let own = e.calls.own in
-    let text = unwrap_or (slice_get (code_of c.args.at.code.now).texts c.args.text) [] in
+    let text = unwrap_or (slice_get (seen_code c.args.at.code.now).texts c.args.text) [] in
     let is : c.text-bytes.result.now ≡ text = sym (ap (λ o. unwrap_or o []) c.text-bytes.ensures) in
     let n : c.conversions.result ≡ conversions text = c.conversions.ensures ∙ ap conversions is in
     let values : c.last-values.result.now ≡ reverse (take (conversions text) own) = c.last-values.ensures ∙ ap (λ k. reverse (take k own)) n in
@@ -42,7 +42,7 @@ pub returns-else-saturating_add-le-OUTPUT_LIMIT : goal.returns-else-saturating_a
 returns-else-saturating_add-le-OUTPUT_LIMIT c =
     let e = c.args.self.now in
     let own = e.calls.own in
-    let text = unwrap_or (slice_get (code_of c.args.at.code.now).texts c.args.text) [] in
+    let text = unwrap_or (slice_get (seen_code c.args.at.code.now).texts c.args.text) [] in
     let is : c.text-bytes.result.now ≡ text = sym (ap (λ o. unwrap_or o []) c.text-bytes.ensures) in
     let n : c.conversions.result ≡ conversions text = c.conversions.ensures ∙ ap conversions is in
     let values : c.last-values.result.now ≡ reverse (take (conversions text) own) = c.last-values.ensures ∙ ap (λ k. reverse (take k own)) n in

@@ -1,18 +1,19 @@
 use Rattle.std.proofs.Common.{◌≡◌, ◌<◌, ◌≤◌, ◌^◌, ◌+◌, ◌-◌, ◌++◌, ℕ, List, [], get_or, length, take, reverse, subst, sym, ap, ◌∙◌, arith, length-append, Ok}
 use Rattle.std.specs.Prelude.{unwrap_or, slice_index, slice_get}
 use Rattle.std.proofs.lemmas.Bool.{leb-true}
+use Rattle.nm_base.specs.declared.limits.TheConstants.{MAX_OUTPUT_BYTES}
 use Rattle.c_tree.specs.Print.{printed}
 use Rattle.stack_code.specs.Machine.{conversions}
-use Rattle.stack_code.specs.View.{code_of}
-use Rattle.proc_machine.specs.View.{given}
-use Rattle.proc_machine.specs.Ready.{bytes_of}
+use Rattle.stack_code.specs.View.{seen_code}
+use Rattle.proc_machine.specs.private.Moves.{given}
+use Rattle.proc_machine.specs.private.Ready.{bytes_of}
 use Rattle.proc_machine.proofs.Sending.{is_below, taken_words, print_makes}
 use Rattle.proc_machine.proofs.execution.Execution.print_bytes.Goals as goal
 
 pub push_printed-requires-clause-words : goal.push_printed-requires-clause-words
 push_printed-requires-clause-words c =
     let own = c.args.self.now.calls.own in
-    let n : c.conversions-count.result ≡ conversions (unwrap_or (slice_get (code_of c.args.at.code.now).texts c.args.text) []) = c.conversions-count.ensures
+    let n : c.conversions-count.result ≡ conversions (unwrap_or (slice_get (seen_code c.args.at.code.now).texts c.args.text) []) = c.conversions-count.ensures
     ∙ ap (λ o. conversions (unwrap_or o [])) (sym c.text-bytes.ensures) in
     let some : c.conversions-count.result ≤ length own = omega (arith, n, c.requires.ready.some) in
     let words : (j : ℕ) → j < c.conversions-count.result → slice_index own j < 2 ^ 32 = λ j h. c.requires.ready.words j (is_below j _ (omega (arith, h, n))) in
@@ -26,7 +27,7 @@ pub returns-clause-made : goal.returns-clause-made
 returns-clause-made c =
     let e = c.args.self.now in
     let own = e.calls.own in
-    let code = code_of c.args.at.code.now in
+    let code = seen_code c.args.at.code.now in
     let text = unwrap_or (slice_get code.texts c.args.text) [] in
     let bytes = bytes_of code c.args.text own in
     let is : c.text-bytes.result.now ≡ text = sym (ap (λ o. unwrap_or o []) c.text-bytes.ensures) in
@@ -35,7 +36,7 @@ returns-clause-made c =
     let out = c.push_printed.new.out in
     let shown : printed c.text-bytes.result.now c.last.result.now ≡ bytes = ap (printed c.text-bytes.result.now) values ∙ ap (λ t. printed t (reverse (take (conversions text) own))) is in
     let items : out.items ≡ e.output.items ++ bytes = c.push_printed.ensures.items ∙ ap (λ l. e.output.items ++ l) shown in
-    let room = leb-true (length e.output.items + length bytes) 1048576 c.requires.room in
+    let room = leb-true (length e.output.items + length bytes) MAX_OUTPUT_BYTES c.requires.room in
     let len = c.len.result - c.len-before.result in
     let all = ap length items in
     let len_is : len ≡ length bytes = omega (arith, c.len.ensures, c.len-before.ensures, all, length-append e.output.items bytes, e.output.ok.0, out.ok.0) in

@@ -1,5 +1,5 @@
 use Rattle.std.proofs.Common.{◌∙◌}
-use Rattle.stack_code.specs.View.{code_of}
+use Rattle.stack_code.specs.View.{seen_code}
 use Rattle.proc_machine.specs.View.{control_of, data_with}
 use Rattle.proc_machine.proofs.Running.{reaches_on}
 use Rattle.proc_machine.proofs.execution.Execution.run.Goals as goal
@@ -11,7 +11,7 @@ steps-preserved c =
     let f = c.step.new.self in
     record {
       holds = c.step.ensures.holds;
-      reaches = λ events. reaches_on (code_of c.args.at.code.now) c.args.at.count c.args.at.me.no (control_of e) (data_with e events 0) (control_of d) (data_with d events 0) (control_of f)
+      reaches = λ events. reaches_on (seen_code c.args.at.code.now) c.args.at.count c.args.at.me.no (control_of e) (data_with e events 0) (control_of d) (data_with d events 0) (control_of f)
           (data_with f events 0) (c.steps.invariant.reaches events) (c.in_default.ensures.steps.goes events);
       sent = c.in_default.ensures.steps.sent ∙ c.steps.invariant.sent;
     }

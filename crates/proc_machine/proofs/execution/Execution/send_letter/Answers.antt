@@ -1,6 +1,6 @@
 use Rattle.std.proofs.Common.{replicate, refl, ap, ◌∙◌}
 use Rattle.c_tree.specs.Expr.{padded}
-use Rattle.stack_code.specs.View.{code_of}
+use Rattle.stack_code.specs.View.{seen_code}
 use Rattle.nm_base.specs.declared.letter.Letter.{Letter}
 use Rattle.proc_machine.proofs.Sending.{word_bounds, send_makes}
 use Rattle.proc_machine.proofs.execution.Execution.send_letter.Goals as goal
@@ -19,5 +19,5 @@ returns-clause-made c =
       stamp = record { parts = replicate 32 0 };
     } in
     send_makes e c.args.at.count c.args.words c.requires.ready.some bounds.0
-    (code_of c.args.at.code.now) c.give-value.new.self letter bounds.1 c.requires.addressed refl c.top.ensures c.top-2.ensures refl
+    (seen_code c.args.at.code.now) c.give-value.new.self letter bounds.1 c.requires.addressed refl c.top.ensures c.top-2.ensures refl
     (c.padded.ensures ∙ ap padded c.last.ensures) c.give-value.ensures.state

@@ -1,5 +1,5 @@
 use Rattle.std.proofs.Common.{refl, sym, arith}
-use Rattle.stack_code.specs.View.{code_of}
+use Rattle.stack_code.specs.View.{seen_code}
 use Rattle.nm_base.specs.declared.kind.Kind.TheVariants as kind
 use Rattle.proc_machine.specs.declared.pause.Pause.TheVariants as pause
 use Rattle.proc_machine.proofs.Going.{holds_there, kept_there, makes_there}
@@ -12,7 +12,7 @@ go_past_line-self-requires-clause-holds c = holds_there c.args.self.now (pause.L
 pub go_past_line-self-requires-clause-there : goal.go_past_line-self-requires-clause-there
 go_past_line-self-requires-clause-there c =
     let m = c.args.self.now in
-    at_line (code_of m.setting.code.now) m.setting.count m.setting.me.no m.execution m.begun m.next m.kept c.args.line c.requires
+    at_line (seen_code m.setting.code.now) m.setting.count m.setting.me.no m.execution m.begun m.next m.kept c.args.line c.requires
 
 pub invariant_of-self : goal.invariant_of-self
 invariant_of-self c =

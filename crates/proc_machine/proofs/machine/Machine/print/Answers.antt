@@ -1,5 +1,5 @@
 use Rattle.std.proofs.Common.{refl, sym, arith}
-use Rattle.stack_code.specs.View.{code_of}
+use Rattle.stack_code.specs.View.{seen_code}
 use Rattle.nm_base.specs.declared.kind.Kind.TheVariants as kind
 use Rattle.proc_machine.specs.declared.pause.Pause.TheVariants as pause
 use Rattle.proc_machine.proofs.Going.{holds_there, waits_there, kept_there, makes_there}
@@ -18,7 +18,7 @@ go_past_print-bytes-requires-clause-holds c = holds_there c.args.self.now pause.
 pub go_past_print-bytes-requires-clause-room : goal.go_past_print-bytes-requires-clause-room
 go_past_print-bytes-requires-clause-room c =
     let m = c.args.self.now in
-    at_print (code_of m.setting.code.now) m.setting.count m.setting.me.no m.execution m.begun m.next m.kept c.text_to_print-text.result c.requires.waits c.text_to_print-text.ensures
+    at_print (seen_code m.setting.code.now) m.setting.count m.setting.me.no m.execution m.begun m.next m.kept c.text_to_print-text.result c.requires.waits c.text_to_print-text.ensures
 
 pub invariant_of-self : goal.invariant_of-self
 invariant_of-self c =

@@ -1,7 +1,7 @@
 use Rattle.std.proofs.Common.{refl, sym, arith}
-use Rattle.stack_code.specs.View.{code_of}
+use Rattle.stack_code.specs.View.{seen_code}
 use Rattle.proc_machine.specs.declared.pause.Pause.TheVariants as pause
-use Rattle.proc_machine.specs.View.{sent_by}
+use Rattle.proc_machine.specs.private.Moves.{sent_by}
 use Rattle.proc_machine.proofs.Going.{holds_there, waits_there, kept_there, makes_there}
 use Rattle.proc_machine.proofs.Knows.{at_send}
 use Rattle.proc_machine.proofs.Letters.{letter_is}
@@ -19,7 +19,7 @@ go_past_send-next-requires-clause-holds c = holds_there c.args.self.now pause.Se
 pub go_past_send-next-requires-clause-addressed : goal.go_past_send-next-requires-clause-addressed
 go_past_send-next-requires-clause-addressed c =
     let m = c.args.self.now in
-    at_send (code_of m.setting.code.now) m.setting.count m.setting.me.no m.execution m.begun m.next m.kept c.words_to_send-words.result c.requires.waits c.words_to_send-words.ensures
+    at_send (seen_code m.setting.code.now) m.setting.count m.setting.me.no m.execution m.begun m.next m.kept c.words_to_send-words.result c.requires.waits c.words_to_send-words.ensures
 
 pub invariant_of-self : goal.invariant_of-self
 invariant_of-self c =

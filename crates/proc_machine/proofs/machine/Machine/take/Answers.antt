@@ -1,5 +1,5 @@
 use Rattle.std.proofs.Common.{refl}
-use Rattle.stack_code.specs.View.{code_of}
+use Rattle.stack_code.specs.View.{seen_code}
 use Rattle.proc_machine.specs.declared.pause.Pause.TheVariants as pause
 use Rattle.proc_machine.proofs.Going.{holds_there, kept_there, accepts_there}
 use Rattle.proc_machine.proofs.Knows.{at_receive, set_known, set_some}
@@ -11,17 +11,17 @@ go_past_receive-self-requires-clause-holds c = holds_there c.args.self.now (paus
 pub go_past_receive-self-requires-clause-there : goal.go_past_receive-self-requires-clause-there
 go_past_receive-self-requires-clause-there c =
     let m = c.args.self.now in
-    at_receive (code_of m.setting.code.now) m.setting.count m.setting.me.no m.execution m.begun m.next m.kept c.args.set c.requires
+    at_receive (seen_code m.setting.code.now) m.setting.count m.setting.me.no m.execution m.begun m.next m.kept c.args.set c.requires
 
 pub go_past_receive-self-requires-clause-set_is : goal.go_past_receive-self-requires-clause-set_is
 go_past_receive-self-requires-clause-set_is c =
     let m = c.args.self.now in
-    set_known (code_of m.setting.code.now) m.setting.count m.setting.me.no m.execution m.begun m.next m.kept c.args.set c.requires
+    set_known (seen_code m.setting.code.now) m.setting.count m.setting.me.no m.execution m.begun m.next m.kept c.args.set c.requires
 
 pub go_past_receive-self-requires-clause-some : goal.go_past_receive-self-requires-clause-some
 go_past_receive-self-requires-clause-some c =
     let m = c.args.self.now in
-    set_some (code_of m.setting.code.now) m.setting.count m.setting.me.no m.execution m.begun m.next m.kept c.args.set c.requires
+    set_some (seen_code m.setting.code.now) m.setting.count m.setting.me.no m.execution m.begun m.next m.kept c.args.set c.requires
 
 pub invariant_of-self : goal.invariant_of-self
 invariant_of-self c =

@@ -1,6 +1,6 @@
 use Rattle.std.proofs.Common.{◌≡◌, ◌≤◌, ◌-◌, length, drop, take, reverse, ap, ◌∙◌, arith}
 use Rattle.std.proofs.lemmas.List.{length-reverse, length-take}
-use Rattle.proc_machine.specs.Stacked.{OperandStack}
+use Rattle.proc_machine.specs.private.Stacked.{OperandStack}
 use Rattle.proc_machine.proofs.Upper.{stack_at, cut_off}
 use Rattle.proc_machine.proofs.operands.Operands.discard.Goals as goal
 

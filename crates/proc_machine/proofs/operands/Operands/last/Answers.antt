@@ -1,7 +1,7 @@
 use Rattle.std.proofs.Common.{◌≡◌, ◌≤◌, ◌-◌, length, drop, take, reverse, ap, ◌∙◌, arith}
 use Rattle.std.proofs.lemmas.List.{length-reverse, length-take, length-drop}
 use Rattle.std.proofs.Math.Seq.{take-length}
-use Rattle.proc_machine.specs.Stacked.{OperandStack}
+use Rattle.proc_machine.specs.private.Stacked.{OperandStack}
 use Rattle.proc_machine.proofs.Upper.{last_are}
 use Rattle.proc_machine.proofs.operands.Operands.last.Goals as goal
 

@@ -1,5 +1,5 @@
 use Rattle.std.proofs.Common.{◌≡◌, ◌≤◌, length, min, take, reverse, ap, ◌∙◌, arith}
-use Rattle.proc_machine.specs.Stacked.{OperandStack}
+use Rattle.proc_machine.specs.private.Stacked.{OperandStack}
 use Rattle.proc_machine.proofs.Upper.{stack_at, left_by}
 use Rattle.proc_machine.proofs.operands.Operands.leave.Goals as goal
 

@@ -1,5 +1,5 @@
 use Rattle.std.proofs.Common.{ap, ◌∙◌, ◌∷◌, reverse, arith}
-use Rattle.proc_machine.specs.Stacked.{OperandStack}
+use Rattle.proc_machine.specs.private.Stacked.{OperandStack}
 use Rattle.proc_machine.proofs.Upper.{stack_at, pushed_on}
 use Rattle.proc_machine.proofs.operands.Operands.push.Goals as goal
 

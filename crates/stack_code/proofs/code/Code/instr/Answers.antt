@@ -4,7 +4,7 @@ use Rattle.std.specs.Prelude.{option_map, slice_get}
 use Rattle.stack_code.specs.Code.{Placed}
 use Rattle.stack_code.specs.Layout.{laid_function_of, functions_in}
 use Rattle.stack_code.specs.Together.{all_steps}
-use Rattle.stack_code.specs.View.{code_of}
+use Rattle.stack_code.specs.View.{seen_code}
 use Rattle.stack_code.proofs.Laid.{has_function}
 use Rattle.stack_code.proofs.Together.{start_within, fetched}
 use Rattle.stack_code.proofs.code.Code.instr.Goals as goal
@@ -24,5 +24,5 @@ pub returns : goal.returns
 returns c =
     let fs = functions_in c.args.self.now.layout in
     ap (λ o. option_map (λ (x : Placed). x.instr) o) (sym (fetched fs c.args.function c.args.place c.requires))
-    ∙ ap (λ n. option_map (λ (x : Placed). x.instr) (slice_get (all_steps (code_of c.args.self.now)) (n + c.args.place))) (sym c.start.ensures)
+    ∙ ap (λ n. option_map (λ (x : Placed). x.instr) (slice_get (all_steps (seen_code c.args.self.now)) (n + c.args.place))) (sym c.start.ensures)
     ∙ c.fetch.ensures

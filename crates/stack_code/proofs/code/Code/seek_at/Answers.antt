@@ -1,5 +1,5 @@
 use Rattle.std.proofs.Common.{◌<◌, sym, ap, ◌∙◌, arith}
-use Rattle.stack_code.specs.View.{code_of}
+use Rattle.stack_code.specs.View.{seen_code}
 use Rattle.stack_code.specs.Seek.{found_at}
 use Rattle.stack_code.proofs.Laid.{function_in, numbered_is, steps_length, part_at, ends_within, known_is, few_at, found_there}
 use Rattle.stack_code.proofs.code.Code.seek_at.Goals as goal
@@ -50,4 +50,4 @@ returns-in-Some c =
     let lt : c.in-Some.at.place < f.len = omega (arith, inside.1, count) in
     c.seek.ensures
     ∙ sym (found_there l.functions.items l.instrs.items l.inside.items code.laid c.in-Some.at.function f inside.0 c.index-function.ensures c.in-Some.at.place c.index.result.now lt c.index.ensures c.args.name.now)
-    ∙ ap (λ o. found_at (code_of code) o c.args.name.now) (sym c.in-Some.is)
+    ∙ ap (λ o. found_at (seen_code code) o c.args.name.now) (sym c.in-Some.is)

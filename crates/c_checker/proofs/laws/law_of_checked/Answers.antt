@@ -1,5 +1,0 @@
-use Rattle.c_checker.proofs.TypedProgram.{checked_parts}
-use Rattle.c_checker.proofs.laws.law_of_checked.Goals as goal
-
-pub returns : goal.returns
-returns c = checked_parts

@@ -1,9 +1,0 @@
-use Rattle.c_compile.proofs.Limits.{checked_within}
-use Rattle.c_compile.proofs.ProgramStacks.{checked_sound}
-use Rattle.c_compile.proofs.laws.law_of_sound_code.Goals as goal
-
-pub returns : goal.returns
-returns c = record {
-  sound = λ globals functions texts main h. checked_sound globals functions texts main h;
-  within = λ globals functions texts main h. checked_within globals functions texts main h;
-}

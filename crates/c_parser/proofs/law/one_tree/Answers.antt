@@ -1,5 +1,0 @@
-use Rattle.c_parser.proofs.Answered.{same_tree}
-use Rattle.c_parser.proofs.law.one_tree.Goals as goal
-
-pub returns : goal.returns
-returns c = same_tree

@@ -1,0 +1,5 @@
+pub mod Operators
+pub mod Reader
+pub mod ReadExpr
+pub mod ReadStmt
+pub mod ReadUnit

@@ -1,0 +1,12 @@
+pub mod Moves
+pub mod Kept
+pub mod Alike
+pub mod Callers
+pub mod Heights
+pub mod Ready
+pub mod Sound
+pub mod Stacked
+pub mod Start
+pub mod Run
+pub mod AtSetting
+pub mod Outcomes
