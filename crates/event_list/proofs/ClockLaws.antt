@@ -19,7 +19,7 @@ use Rattle.event_list.proofs.Soundness.{old, new, numbers, same_place, entry_at,
 use Rattle.event_list.proofs.Links.{accepts_from, before_stays, before_grows, first_in}
 
 -- the past of an old entry stays as it was
-grow_counts : {M : ℕ} {E : List Event} (e : Event) → Sound M E → FitsSoundly M E e → (a : Event) (v : ℕ → ℕ) → Contains E a → IsCounts E a v → IsCounts (E ++ e ∷ []) a v
+pub grow_counts : {M : ℕ} {E : List Event} (e : Event) → Sound M E → FitsSoundly M E e → (a : Event) (v : ℕ → ℕ) → Contains E a → IsCounts E a v → IsCounts (E ++ e ∷ []) a v
 grow_counts {E = E} e g f a v ha h =
     record {
       at_most = λ q. omega (arith, h.at_most q, count_grows E e q);

@@ -212,7 +212,7 @@ module _ (M : ℕ) (E : List Event) (g : Sound M E) where
             | inr d ↦ inr (λ l. d (subst (IsLogged M E) (letter_same g l.0 m l.2.1.could.sent sent (l.1 ∙ sym n)) l.2))
           ]
 
-keeps_some : {X : Type 0} (P : X → Type 0) → ((x : X) → Decided (P x)) → (xs : List X) → (ys : List X) × Keeps P xs ys
+pub keeps_some : {X : Type 0} (P : X → Type 0) → ((x : X) → Decided (P x)) → (xs : List X) → (ys : List X) × Keeps P xs ys
 keeps_some P d [] = ([], nothing)
 keeps_some P d (x ∷ xs) = let r = keeps_some P d xs in elim (d x) [
   | inl p ↦ (x ∷ r.0, kept p r.1)

@@ -1,6 +1,7 @@
 pub mod Members
 pub mod Splits
 pub mod Entries
+pub mod StoredFacts
 pub mod Soundness
 pub mod Links
 pub mod ClockLaws
@@ -28,7 +29,17 @@ pub mod RuleFacts
 pub mod OrderlyFacts
 pub mod EachTurn
 pub mod MaskFacts
+pub mod PredecessorFacts
+pub mod NoteGrowth
+pub mod PrintFacts
+pub mod CarryingFacts
+pub mod FormedFacts
+pub mod LeastFacts
+pub mod CheckFacts
+pub mod Fronts
 pub mod FirstPickFacts
 pub mod PastNumbers
 pub mod ExampleFacts
 pub mod WorkedFacts
+pub mod LoggedTest
+pub mod WorkedOrderFacts

@@ -14,7 +14,7 @@ use Rattle.nm_base.specs.Fitting.{EachFits, none, more}
 use Rattle.nm_base.specs.Message.{Message}
 use Rattle.nm_base.specs.Scripts.{message_sent}
 use Rattle.event_list.specs.declared.Event.{Event}
-use Rattle.event_list.specs.Events.{entries, count, letters, letter_of, taken, taken_of, taken_in}
+use Rattle.event_list.specs.Events.{Accepts, entries, count, letters, letter_of, taken, taken_of, taken_in}
 use Rattle.event_list.specs.Runs.{Sound}
 use Rattle.event_list.specs.Traces.{Keeps, nothing, kept, left_out, waiting, receive_number, note_of, Trace, IsTraceOf}
 use Rattle.event_list.specs.TraceRules.{NoteFits, LostFits, IsOrderly}
@@ -92,8 +92,9 @@ module _ {M : ℕ} {E : List Event} (g : Sound M E) where
             let b = in_filter_map (note_of E) P a c in
             let x = is_noted E b.0 a b.2 in
             let q : b.0.proc.no ≡ e.proc.no = ap (λ z. z.no) (sym x.receiver) ∙ same ∙ ap (λ z. z.no) n.receiver in
-            let k = accepts_from b.0 a.id (here b.0 b.1) x.takes in
-            omega (arith, receive_order g b.0 e k.0 a.id k.1 (part e (new P e)) q (below b.0 b.1 q), x.receive, n.receive);
+            let k : (set : ℕ) × Accepts E b.0 set a.id = accepts_from b.0 a.id (here b.0 b.1) x.takes in
+            let later : receive_number E b.0 < receive_number E e = receive_order g b.0 e k.0 a.id k.1 (part e (new P e)) q (below b.0 b.1 q) in
+            omega (arith, later, x.receive, n.receive);
         other = λ a c same.
             let b = in_filter_map (note_of E) P a c in
             let x = is_noted E b.0 a b.2 in
@@ -182,7 +183,7 @@ one_letter e = by e.proc e.kind
     by p (Faulted x) = omega arith
 
 -- each letter that was sent waits or was accepted
-letters_wait : {M : ℕ} {E : List Event} → Sound M E → length (waiting E) + length (taken E) ≡ length (letters E)
+pub letters_wait : {M : ℕ} {E : List Event} → Sound M E → length (waiting E) + length (taken E) ≡ length (letters E)
 letters_wait none = refl
 letters_wait (more {xs = E} {x = e} g f) = by (taken_of e) refl (letters_wait g)
   where
@@ -204,7 +205,7 @@ letters_wait (more {xs = E} {x = e} g f) = by (taken_of e) refl (letters_wait g)
         let w = waiting_taken g e k.0 c.0 t.0 c.1 (k.1.kind ∙ ap (Accepted k.0) (sym t.1)) c.2 in
         omega (arith, ih, sent, accepted, one_now, one_letter e, ap length w, ap length c.2, length-append c.0 c.1, length-append c.0 (t.0 ∷ c.1))
 
-few_letters : (E : List Event) → length (letters E) + length (taken E) ≤ length E
+pub few_letters : (E : List Event) → length (letters E) + length (taken E) ≤ length E
 few_letters [] = omega arith
 few_letters (x ∷ xs) = omega (arith, few_letters xs, one_letter x, ap length (filter_map-append letter_of (x ∷ []) xs), length-append (letters (x ∷ [])) (letters xs), ap length (filter_map-append taken_of (x ∷ []) xs), length-append (taken (x ∷ [])) (taken xs))
 
@@ -212,7 +213,7 @@ pub trace_size : (E : List Event) (T : Trace) → Sound T.mask E → IsTraceOf E
 trace_size E T g t = omega (arith, keeps_fewer t.notes, many_notes E E, keeps_fewer t.lost, length-map (waiting E) (λ m. m.id), letters_wait g, few_letters E)
 
 -- the counts of all processes are of all events
-all_counted : (n : ℕ) (E : List Event) → ((a : Event) → Contains E a → a.proc.no < n) → sum_below n (count E) ≡ length E
+pub all_counted : (n : ℕ) (E : List Event) → ((a : Event) → Contains E a → a.proc.no < n) → sum_below n (count E) ≡ length E
 all_counted n [] h = sum_zero n
   where
     sum_zero : (n : ℕ) → sum_below n (λ p. 0) ≡ 0

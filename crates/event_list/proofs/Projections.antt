@@ -55,7 +55,7 @@ pub prefix_part : {M N : ℕ} {R E : List Event} → Sound M R → Sound N E →
 prefix_part {R = R} {E = E} r g part p =
     (drop (count R p) (entries E p), ap (λ xs. xs ++ drop (count R p) (entries E p)) (entries_part r g part p) ∙ take-append-drop (count R p) (entries E p))
 
-name_same : (a b : LetterId) → a.sender.no ≡ b.sender.no → a.number ≡ b.number → a ≡ b
+pub name_same : (a b : LetterId) → a.sender.no ≡ b.sender.no → a.number ≡ b.number → a ≡ b
 name_same a b p n = λ i. record { sender = record { no = p i }; number = n i }
 
 -- a test of names that says yes

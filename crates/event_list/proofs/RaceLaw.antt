@@ -25,7 +25,7 @@ no_letter b set id m k h = some_none m (ap (message_sent b.proc) (sym k) ∙ h)
 
 module _ (E : List Event) (s q : Event) (v w : ℕ → ℕ) where
   -- the entries of the pasts of s and q, without q
-  abbrev joined : Cut
+  abbrev pub joined : Cut
   joined p = cond (eqb p q.proc.no) (q.number - 1) (max (v p) (w p))
 
   joined_at : joined q.proc.no ≡ q.number - 1
@@ -42,29 +42,20 @@ pub record JoinedCut (E : List Event) (s q : Event) : Type 0 where
   pub holds : (x : Event) → Contains E x → ((x ≡ s) ⊎ Before E x s) ⊎ Before E x q → Within cut x
   pub only : (x : Event) → Contains E x → Within cut x → ((x ≡ s) ⊎ Before E x s) ⊎ Before E x q
 
-pub joined_cut : {M : ℕ} {E : List Event} → Sound M E → (s q : Event) (set : ℕ) (id : LetterId) → Contains E s → Accepts E q set id → (Before E q s → ⊥) → (s ≡ q → ⊥) → JoinedCut E s q
-joined_cut {E = E} g s q set id hs hq free other =
-    record { cut = c; consistent = record { is_cut = is_cut; closed = λ a b ha hb d hc. closed a b ha hb d (only b hb hc) }; up_to = omega (arith, joined_at E s q v w, (numbers g q hq.in_list).0); holds = holds; only = only }
+-- with vectors that count the two pasts
+pub joined_counts : {M : ℕ} {E : List Event} → Sound M E → (s q : Event) (set : ℕ) (id : LetterId) → Contains E s → Accepts E q set id → (Before E q s → ⊥) → (s ≡ q → ⊥) → (v w : ℕ → ℕ) → IsCounts E s v → IsCounts E q w → (j : JoinedCut E s q) × ((p : ℕ) → j.cut p ≡ joined E s q v w p)
+joined_counts {E = E} g s q set id hs hq free other v w kv kw = (
+  record { cut = c; consistent = record { is_cut = is_cut; closed = λ a b ha hb d hc. closed a b ha hb d (only b hb hc) }; up_to = omega (arith, joined_at E s q v w, (numbers g q hq.in_list).0); holds = holds; only = only },
+  (λ p. refl),
+)
   where
-    kv : (v : ℕ → ℕ) × IsCounts E s v
-    kv = past_counts g s hs
-
-    kw : (v : ℕ → ℕ) × IsCounts E q v
-    kw = past_counts g q hq.in_list
-
-    v : ℕ → ℕ
-    v = kv.0
-
-    w : ℕ → ℕ
-    w = kw.0
-
     c : Cut
     c = joined E s q v w
 
     is_cut : (p : ℕ) → c p ≤ count E p
     is_cut p = elim (cases_eq p q.proc.no) [
       | inl h ↦ omega (arith, ap c h, joined_at E s q v w, (numbers g q hq.in_list).1, ap (count E) h)
-      | inr h ↦ omega (arith, joined_off E s q v w p h, kv.1.at_most p, kw.1.at_most p)
+      | inr h ↦ omega (arith, joined_off E s q v w p h, kv.at_most p, kw.at_most p)
     ]
 
     cycle : Before E q q → ⊥
@@ -82,7 +73,7 @@ joined_cut {E = E} g s q set id hs hq free other =
           | inl at ↦ let same = same_place g x q hx hq.in_list p at in
               elim k [
                 | inl z ↦ elim z [ inl e ↦ other (sym e ∙ same) | inr b ↦ free (subst (λ y. Before E y s) same b) ]
-                | inr b ↦ let t = (kw.1.tells x hx).1 (inr b) in cycle (subst (λ y. Before E y q) same b)
+                | inr b ↦ let t = (kw.tells x hx).1 (inr b) in cycle (subst (λ y. Before E y q) same b)
               ]
           | inr ne ↦ let l : Link E q x = record { first = hq.in_list; second = hx; how = inl record { same = sym p; later = omega arith } } in
               elim k [
@@ -92,8 +83,8 @@ joined_cut {E = E} g s q set id hs hq free other =
         ])
       ]
       | inr p ↦ elim k [
-        | inl z ↦ omega (arith, (kv.1.tells x hx).1 z, joined_off E s q v w x.proc.no p)
-        | inr b ↦ omega (arith, (kw.1.tells x hx).1 (inr b), joined_off E s q v w x.proc.no p)
+        | inl z ↦ omega (arith, (kv.tells x hx).1 z, joined_off E s q v w x.proc.no p)
+        | inr b ↦ omega (arith, (kw.tells x hx).1 (inr b), joined_off E s q v w x.proc.no p)
       ]
     ]
 
@@ -101,9 +92,9 @@ joined_cut {E = E} g s q set id hs hq free other =
     only x hx l = elim (cases_eq x.proc.no q.proc.no) [
       | inl p ↦ inr (one record { first = hx; second = hq.in_list; how = inl record { same = p; later = omega (arith, l, ap c p, joined_at E s q v w, (numbers g q hq.in_list).0) } })
       | inr p ↦ elim (cases_lt (v x.proc.no) x.number) [
-        | inl above ↦ let t = (kw.1.tells x hx).0 (omega (arith, l, joined_off E s q v w x.proc.no p, above)) in
+        | inl above ↦ let t = (kw.tells x hx).0 (omega (arith, l, joined_off E s q v w x.proc.no p, above)) in
             elim t [ inl e ↦ absurd (p (ap (λ y. y.proc.no) e)) | inr b ↦ inr b ]
-        | inr below ↦ inl ((kv.1.tells x hx).0 below)
+        | inr below ↦ inl ((kv.tells x hx).0 below)
       ]
     ]
 
@@ -114,6 +105,12 @@ joined_cut {E = E} g s q set id hs hq free other =
           | inl z ↦ inl (inr (elim z [ inl e ↦ subst (λ y. Before E a y) e (one l) | inr r ↦ before_trans (one l) r ]))
           | inr r ↦ inr (before_trans (one l) r)
         ])
+
+pub joined_cut : {M : ℕ} {E : List Event} → Sound M E → (s q : Event) (set : ℕ) (id : LetterId) → Contains E s → Accepts E q set id → (Before E q s → ⊥) → (s ≡ q → ⊥) → JoinedCut E s q
+joined_cut g s q set id hs hq free other =
+    let v = past_counts g s hs in
+    let w = past_counts g q hq.in_list in
+    (joined_counts g s q set id hs hq free other v.0 w.0 v.1 w.1).0
 
 -- where q could have taken m, they race exactly where q did not happen before m's send
 pub race_law : {M : ℕ} {E : List Event} → Sound M E → (q s : Event) (m : Message) → CouldTake M E q m → Sends E s m → Race M E q m ↔ (Before E q s → ⊥)

@@ -25,11 +25,11 @@ use Rattle.std.proofs.lemmas.List.{take_all}
 flip_same : {E F : List Event} → SameEntries E F → SameEntries F E
 flip_same h = record { same = λ p. sym (h.same p) }
 
-same_part : {E F : List Event} → SameEntries E F → IsPart E F
+pub same_part : {E F : List Event} → SameEntries E F → IsPart E F
 same_part {E = E} {F = F} h a c =
     (in_filter (is_of a.proc.no) F a (subst (λ es. Contains es a) (h.same a.proc.no) (filter_in (is_of a.proc.no) E a c (eq-eqb a.proc.no a.proc.no refl)))).0
 
-same_count : {E F : List Event} → SameEntries E F → (p : ℕ) → count E p ≡ count F p
+pub same_count : {E F : List Event} → SameEntries E F → (p : ℕ) → count E p ≡ count F p
 same_count h p = ap length (h.same p)
 
 sends_over : {E F : List Event} → SameEntries E F → (a : Event) (m : Message) → Sends E a m → Sends F a m

@@ -22,7 +22,7 @@ use Rattle.event_list.proofs.TurnFacts.{precedes_from, precedes_is}
 abbrev pub InOrder : List Message → Message → Type 0
 InOrder ls m = (l : Message) → Contains ls l → l.id.sender.no ≡ m.id.sender.no → l.id.number < m.id.number
 
-letters_in_order : {M : ℕ} {E : List Event} → Sound M E → EachFits InOrder (letters E)
+pub letters_in_order : {M : ℕ} {E : List Event} → Sound M E → EachFits InOrder (letters E)
 letters_in_order none = none
 letters_in_order (more {xs = E} {x = e} g f) = subst (EachFits InOrder) (sym (letters_grow E e)) (by (letter_of e) refl (letters_in_order g))
   where

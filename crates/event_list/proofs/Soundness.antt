@@ -77,7 +77,7 @@ one_letter : (e : Event) (m : Message) → letter_of e ≡ Some m → length (le
 one_letter e m h = rw h refl
 
 -- a letter's number is below its sender's number of sends
-send_number : {M : ℕ} {E : List Event} → Sound M E → (a : Event) (m : Message) → Sends E a m → m.id.number < sends E a.proc.no
+pub send_number : {M : ℕ} {E : List Event} → Sound M E → (a : Event) (m : Message) → Sends E a m → m.id.number < sends E a.proc.no
 send_number none a m h = absurd (nothing_in a h.in_list)
 send_number (more {xs = E} {x = e} g f) a m h =
     elim (Contains-push_cases E e a h.in_list) [

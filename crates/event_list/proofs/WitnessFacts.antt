@@ -49,7 +49,7 @@ keeps_as f b (kept {x = x} p h) = kept (f x p) (keeps_as f b h)
 keeps_as f b (left_out {x = x} p h) = left_out (λ q. p (b x q)) (keeps_as f b h)
 
 -- what a joined cut holds is the two pasts without q
-joined_kept : {M : ℕ} {E : List Event} → Sound M E → (a q : Event) (j : JoinedCut E a q) → (Before E q a → ⊥) → (a ≡ q → ⊥) → (x : Event) → Contains E x → Within j.cut x ↔ IsKept E a q x
+pub joined_kept : {M : ℕ} {E : List Event} → Sound M E → (a q : Event) (j : JoinedCut E a q) → (Before E q a → ⊥) → (a ≡ q → ⊥) → (x : Event) → Contains E x → Within j.cut x ↔ IsKept E a q x
 joined_kept {E = E} g a q j free differs x hx = (
   (λ w. elim (j.only x hx w) [
     | inl u ↦ (inl (hx, u), (λ e. elim u [ inl z ↦ differs (sym z ∙ e) | inr b ↦ free (subst (λ y. Before E y a) e b) ]))
@@ -61,7 +61,7 @@ joined_kept {E = E} g a q j free differs x hx = (
   ])),
 )
 
-not_its_send : {M : ℕ} {E : List Event} {a q : Event} {m : Message} → CouldTake M E q m → Sends E a m → a ≡ q → ⊥
+pub not_its_send : {M : ℕ} {E : List Event} {a q : Event} {m : Message} → CouldTake M E q m → Sends E a m → a ≡ q → ⊥
 not_its_send {q = q} {m = m} could ha e = no_letter q could.set could.took m could.receive.kind (ap letter_of (sym e) ∙ ha.letter)
 
 -- the pasts of a logged letter's send and of the last receive that could have taken it, without the receive, are a consistent cut

@@ -6,7 +6,7 @@ use Rattle.processes.specs.ListedFacts.{listed_lawful}
 use Rattle.event_list.specs.Events.{entries}
 use Rattle.event_list.specs.Clocks.{clocks}
 use Rattle.event_list.specs.Turns.{run_of, replay_of, finish_of}
-use Rattle.event_list.specs.Worked.{name, gatherer, teller, gathering, talker, talking, turns_of, parts_below, trace, recorded, replayed, talked, WorkedRuns}
+use Rattle.event_list.specs.Worked.{name, gatherer, teller, gathering, talker, talking, turns_of, parts_below, trace, recorded, replayed, talked, WorkedLaw}
 
 lawful : (p : ℕ) → IsLawful (gathering p)
 lawful zero = listed_lawful gatherer refl
@@ -62,7 +62,7 @@ stamp_of_second = refl
 stamp_of_third : (clocks talked).stamp (name 0 2) 0 ≡ 11
 stamp_of_third = refl
 
-pub worked : WorkedRuns
+pub worked : WorkedLaw
 worked = record {
   lawful = lawful;
   lawful_talker = λ p. listed_lawful talker refl;

@@ -19,7 +19,8 @@ pub record CouldTake (M : ℕ) (E : List Event) (q : Event) (m : Message) : Type
   -- q comes before m's own receive, if m is received
   pub before_own : (r : Event) (set : ℕ) → Accepts E r set m.id → q.number < r.number
   -- on an ordered channel, each earlier letter of m's sender there was received before q
-  pub in_order : has_channel M m.chan ≡ true → (l : Message) → IsSent E l → Precedes l m → (r : Event) × (set : ℕ) × Accepts E r set l.id × (r.number < q.number)
+  pub in_order : has_channel M m.chan ≡ true → (l : Message) → IsSent E l → Precedes l m
+      → (r : Event) × (set : ℕ) × Accepts E r set l.id × (r.number < q.number)
 
 -- m could have been at q: a consistent cut holds m's send, and of q's process exactly the entries before q
 pub record Race (M : ℕ) (E : List Event) (q : Event) (m : Message) : Type 0 where

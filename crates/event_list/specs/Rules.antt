@@ -21,16 +21,22 @@ rule_of (Some T) = record { lets = permits T; lets_go = λ p k. not (nat_le (T.c
 
 -- whether p may accept the waiting letter at a receive with this set
 abbrev pub may_take_under : ℕ → Rule → List Event → ℕ → ℕ → Message → Bool
-may_take_under M rule E p set m = (m.dest.no == p) && (has_channel set m.chan && (rule.lets p (receives E p) m.id && (not (has_channel M m.chan) || is_first E m)))
+may_take_under M rule E p set m =
+    (m.dest.no == p)
+    && (has_channel set m.chan
+    && (rule.lets p (receives E p) m.id && (not (has_channel M m.chan) || is_first E m)))
 
 abbrev pub allowed_under : ℕ → Rule → List Event → ℕ → ℕ → List Message
 allowed_under M rule E p set = filter (may_take_under M rule E p set) (waiting E)
 
 abbrev pub next_under : ℕ → Rule → List Event → ℕ → ℕ → Next → Turned
 next_under M rule E p pick Over = Stays IsOver
-next_under M rule E p pick (Goes kind) = if rule.lets_go p (count E p) then Went (next_event E p kind) else Stays AtCount
+next_under M rule E p pick (Goes kind) =
+    if rule.lets_go p (count E p) then Went (next_event E p kind) else Stays AtCount
 next_under M rule E p pick (Wants set) =
-    if rule.lets_go p (count E p) then taking E p set (slice_get (allowed_under M rule E p set) (pick % length (allowed_under M rule E p set))) else Stays AtCount
+    if rule.lets_go p (count E p)
+    then taking E p set (slice_get (allowed_under M rule E p set) (pick % length (allowed_under M rule E p set)))
+    else Stays AtCount
 
 -- one turn under the mask M and a rule
 abbrev pub go_under : (ℕ → Script) → ℕ → Rule → List Event → Turn → Turned

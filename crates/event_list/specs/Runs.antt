@@ -38,7 +38,8 @@ IsRun s M E = EachFits (Fits s M) E
 pub record FitsSoundly (M : ℕ) (E : List Event) (e : Event) : Type 0 where
   pub next_number : e.number ≡ count E e.proc.no + 1
   pub sends_next : (m : Message) → letter_of e ≡ Some m → m.id.number ≡ sends E e.proc.no
-  pub takes : (set : ℕ) (id : LetterId) → e.kind ≡ Accepted set id → (m : Message) × (m.id ≡ id) × MayTake M E e.proc.no set m
+  pub takes : (set : ℕ) (id : LetterId) → e.kind ≡ Accepted set id
+      → (m : Message) × (m.id ≡ id) × MayTake M E e.proc.no set m
   pub goes_on : (a : Event) → Contains E a → a.proc.no ≡ e.proc.no → is_last a.kind ≡ false
 
 -- a sound list of events

@@ -50,14 +50,20 @@ pub record Trace : Type 0 where
 abbrev pub IsLoggedName : ℕ → List Event → LetterId → Type 0
 IsLoggedName M E id = (m : Message) × (m.id ≡ id) × IsLogged M E m
 
+-- these are a note for each logged letter that was received, in the order of the receives
+abbrev pub AreNotesOf : ℕ → List Event → List AcceptNote → Type 0
+AreNotesOf M E notes = Keeps (λ (note : AcceptNote). IsLoggedName M E note.id) (all_notes E) notes
+
+-- these are the logged letters that were never received, in the order of the sends
+abbrev pub AreLostOf : ℕ → List Event → List LetterId → Type 0
+AreLostOf M E lost = Keeps (IsLoggedName M E) (map (λ m. m.id) (waiting E)) lost
+
 -- T is the trace of E under its mask
 pub record IsTraceOf (E : List Event) (T : Trace) : Type 0 where
   -- E's processes are those below n
   pub processes : (a : Event) → Contains E a → a.proc.no < T.n
-  -- a note for each logged letter that was received, in the order of the receives
-  pub notes : Keeps (λ note. IsLoggedName T.mask E note.id) (all_notes E) T.notes
-  -- each logged letter that was never received, in the order of the sends
-  pub lost : Keeps (IsLoggedName T.mask E) (map (λ m. m.id) (waiting E)) T.lost
+  pub notes : AreNotesOf T.mask E T.notes
+  pub lost : AreLostOf T.mask E T.lost
   -- each process's count
   pub counts : (p : ℕ) → T.counts p ≡ count E p
 
@@ -79,7 +85,8 @@ permits T p j id = permits_by (note_for T p j) T id
 
 -- the entry is no receive, or accepts a letter that the trace permits
 pub record IsPermitted (T : Trace) (E : List Event) (e : Event) : Type 0 where
-  pub permitted : (set : ℕ) (id : LetterId) → e.kind ≡ Accepted set id → permits T e.proc.no (receives E e.proc.no) id ≡ true
+  pub permitted : (set : ℕ) (id : LetterId) → e.kind ≡ Accepted set id
+      → permits T e.proc.no (receives E e.proc.no) id ≡ true
 
 -- R is a replay of the scripts under the trace
 pub record IsReplay (s : ℕ → Script) (T : Trace) (R : List Event) : Type 0 where

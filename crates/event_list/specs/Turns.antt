@@ -29,7 +29,9 @@ pub record Turn : Type 0 where
 
 -- whether l is an earlier letter of m's sender, to the same process on the same channel
 abbrev pub precedes : Message → Message → Bool
-precedes l m = (l.id.sender.no == m.id.sender.no) && (nat_lt l.id.number m.id.number && ((l.dest.no == m.dest.no) && (l.chan == m.chan)))
+precedes l m =
+    (l.id.sender.no == m.id.sender.no)
+    && (nat_lt l.id.number m.id.number && ((l.dest.no == m.dest.no) && (l.chan == m.chan)))
 
 -- whether no such letter waits
 abbrev pub is_first : List Event → Message → Bool
@@ -48,7 +50,10 @@ permits_if (Some T) p j id = permits T p j id
 
 -- whether p may accept the waiting letter at a receive with this set
 abbrev pub may_take : ℕ → Option Trace → List Event → ℕ → ℕ → Message → Bool
-may_take M T E p set m = (m.dest.no == p) && (has_channel set m.chan && (permits_if T p (receives E p) m.id && (not (has_channel M m.chan) || is_first E m)))
+may_take M T E p set m =
+    (m.dest.no == p)
+    && (has_channel set m.chan
+    && (permits_if T p (receives E p) m.id && (not (has_channel M m.chan) || is_first E m)))
 
 -- the letters that it may accept, in the order of their sends
 abbrev pub allowed : ℕ → Option Trace → List Event → ℕ → ℕ → List Message
@@ -73,7 +78,8 @@ abbrev pub by_next : ℕ → Option Trace → List Event → ℕ → ℕ → Nex
 by_next M T E p pick Over = Stays IsOver
 by_next M T E p pick (Goes kind) = if is_at_count T E p then Stays AtCount else Went (next_event E p kind)
 by_next M T E p pick (Wants set) =
-    if is_at_count T E p then Stays AtCount else taking E p set (slice_get (allowed M T E p set) (pick % length (allowed M T E p set)))
+    if is_at_count T E p then Stays AtCount
+    else taking E p set (slice_get (allowed M T E p set) (pick % length (allowed M T E p set)))
 
 -- one turn, under the mask M and a trace or none
 abbrev pub go : (ℕ → Script) → ℕ → Option Trace → List Event → Turn → Turned
@@ -92,7 +98,8 @@ run_of s M turns = fold (λ E t. after E (go s M None E t)) [] turns
 abbrev pub replay_of : (ℕ → Script) → Trace → List Turn → List Event
 replay_of s T turns = fold (λ R t. after R (go s T.mask (Some T) R t)) [] turns
 
--- round robin: the replay so far, the process whose turn is next, how many turns in succession were idle, and how many turns and idle turns were made
+-- round robin: the replay so far, the process whose turn is next, how many turns in succession were idle, and how many
+-- turns and idle turns were made
 pub record Finishing : Type 0 where
   pub events : List Event
   pub next : ℕ
@@ -123,8 +130,22 @@ abbrev pub next_of : ℕ → ℕ → ℕ
 next_of n p = if p + 1 == n then 0 else p + 1
 
 abbrev pub finish_by : Trace → Finishing → Turned → Finishing
-finish_by T f (Stays why) = record { events = f.events; next = next_of T.n f.next; idle_now = f.idle_now + 1; turns = f.turns + 1; idle = f.idle + 1 }
-finish_by T f (Went e) = record { events = f.events ++ e ∷ []; next = next_of T.n f.next; idle_now = 0; turns = f.turns + 1; idle = f.idle }
+finish_by T f (Stays why) =
+    record {
+      events = f.events;
+      next = next_of T.n f.next;
+      idle_now = f.idle_now + 1;
+      turns = f.turns + 1;
+      idle = f.idle + 1;
+    }
+finish_by T f (Went e) =
+    record {
+      events = f.events ++ e ∷ [];
+      next = next_of T.n f.next;
+      idle_now = 0;
+      turns = f.turns + 1;
+      idle = f.idle;
+    }
 
 -- one turn of the round robin, with pick 0
 abbrev pub finish_turn : (ℕ → Script) → Trace → Finishing → Finishing

@@ -1,5 +1,5 @@
 -- Witnesses: runs in which the last earlier receive that could have taken a logged letter takes it.
-use Rattle.std.specs.Prelude.{◌≡◌, ◌≢◌, ℕ, ◌⊎◌, ◌↔◌, List, [], ◌∷◌, ◌++◌, Contains}
+use Rattle.std.specs.Prelude.{◌≡◌, ◌≢◌, ℕ, ◌-◌, ◌==◌, max, if◌then◌else◌, ◌⊎◌, ◌↔◌, List, [], ◌∷◌, ◌++◌, Contains}
 use Rattle.nm_base.specs.declared.letter.LetterId.{LetterId}
 use Rattle.nm_base.specs.declared.kind.Kind.TheVariants.{Accepted}
 use Rattle.nm_base.specs.Message.{Message}
@@ -21,11 +21,16 @@ pub record KeptCut (E : List Event) (s q : Event) : Type 0 where
   pub consistent : IsConsistent E cut
   pub holds : (x : Event) → Contains E x → Within cut x ↔ IsKept E s q x
 
+-- how many entries of each process these are, where v and w count the two pasts
+abbrev pub kept_counts : Event → (ℕ → ℕ) → (ℕ → ℕ) → Cut
+kept_counts q v w p = if p == q.proc.no then q.number - 1 else max (v p) (w p)
+
 -- the receive q with another letter
 abbrev pub taking_instead : Event → ℕ → LetterId → Event
 taking_instead q set id = record { proc = q.proc; number = q.number; kind = Accepted set id }
 
--- W is a run that keeps the pasts of m's send and of the last receive that could have taken m, and in which that receive takes m
+-- W is a run that keeps the pasts of m's send and of the last receive that could have taken m, and in which that
+-- receive takes m
 pub record IsWitness (s : ℕ → Script) (M : ℕ) (E : List Event) (m : Message) (W : List Event) : Type 0 where
   pub send : Event
   pub sends : Sends E send m

@@ -41,7 +41,9 @@ parts_below n v = map v (to_list n [])
 -- ---- processes 1 and 2 send their numbers to process 0, which receives and prints twice
 
 abbrev pub gatherer : List Kind
-gatherer = Line 1 ∷ Line 3 ∷ Line 4 ∷ receives_any ∷ Printed 2 ∷ Line 5 ∷ receives_any ∷ Printed 2 ∷ Line 9 ∷ Ended (pos 0) ∷ []
+gatherer =
+    Line 1 ∷ Line 3 ∷ Line 4 ∷ receives_any ∷ Printed 2 ∷ Line 5 ∷ receives_any ∷ Printed 2 ∷ Line 9
+    ∷ Ended (pos 0) ∷ []
 
 abbrev pub teller : ℕ → List Kind
 teller p = Line 1 ∷ Line 3 ∷ Line 7 ∷ sends_zero 0 p ∷ Line 9 ∷ Ended (pos 0) ∷ []
@@ -55,12 +57,15 @@ gathering p = listed (gathering_kinds p)
 
 -- what process 0 does when letter 1.0 comes first
 abbrev pub gathered : List Kind
-gathered = Line 1 ∷ Line 3 ∷ Line 4 ∷ Accepted 1 (name 1 0) ∷ Printed 2 ∷ Line 5 ∷ Accepted 1 (name 2 0) ∷ Printed 2 ∷ Line 9 ∷ Ended (pos 0) ∷ []
+gathered =
+    Line 1 ∷ Line 3 ∷ Line 4 ∷ Accepted 1 (name 1 0) ∷ Printed 2 ∷ Line 5 ∷ Accepted 1 (name 2 0) ∷ Printed 2
+    ∷ Line 9 ∷ Ended (pos 0) ∷ []
 
 -- events of the process with these kinds, numbered from the first number on
 abbrev pub numbered : ℕ → ℕ → List Kind → List Event
 numbered p first [] = []
-numbered p first (kind ∷ kinds) = record { proc = process p; number = first; kind = kind } ∷ numbered p (first + 1) kinds
+numbered p first (kind ∷ kinds) =
+    record { proc = process p; number = first; kind = kind } ∷ numbered p (first + 1) kinds
 
 -- the run of 1*6 2*6 0*10
 abbrev pub recorded : List Event
@@ -79,13 +84,16 @@ trace = record {
 
 -- the replay of 2*6 0*4 1*6 0*10: letter 2.0 waits first and is not accepted by receive 0
 abbrev pub replayed : List Event
-replayed = numbered 2 1 (teller 2) ++ (numbered 0 1 (take 3 gathered) ++ (numbered 1 1 (teller 1) ++ numbered 0 4 (drop 3 gathered)))
+replayed =
+    numbered 2 1 (teller 2)
+    ++ (numbered 0 1 (take 3 gathered) ++ (numbered 1 1 (teller 1) ++ numbered 0 4 (drop 3 gathered)))
 
 -- ---- one process that sends itself two letters, receives two, sends a third and receives it
 
 abbrev pub talker : List Kind
 talker =
-    Line 1 ∷ Line 3 ∷ sends_zero 0 1 ∷ Line 4 ∷ sends_zero 1 2 ∷ Line 5 ∷ receives_any ∷ Line 6 ∷ receives_any ∷ Line 7 ∷ sends_zero 2 3 ∷ Line 8 ∷ receives_any ∷ Line 9 ∷ Ended (pos 0) ∷ []
+    Line 1 ∷ Line 3 ∷ sends_zero 0 1 ∷ Line 4 ∷ sends_zero 1 2 ∷ Line 5 ∷ receives_any ∷ Line 6 ∷ receives_any ∷ Line 7
+    ∷ sends_zero 2 3 ∷ Line 8 ∷ receives_any ∷ Line 9 ∷ Ended (pos 0) ∷ []
 
 abbrev pub talking : ℕ → Script
 talking p = listed talker
@@ -93,9 +101,10 @@ talking p = listed talker
 -- the run of 0*15
 abbrev pub talked : List Event
 talked = numbered 0 1
-    (Line 1 ∷ Line 3 ∷ sends_zero 0 1 ∷ Line 4 ∷ sends_zero 1 2 ∷ Line 5 ∷ Accepted 1 (name 0 0) ∷ Line 6 ∷ Accepted 1 (name 0 1) ∷ Line 7 ∷ sends_zero 2 3 ∷ Line 8 ∷ Accepted 1 (name 0 2) ∷ Line 9 ∷ Ended (pos 0) ∷ [])
+    (Line 1 ∷ Line 3 ∷ sends_zero 0 1 ∷ Line 4 ∷ sends_zero 1 2 ∷ Line 5 ∷ Accepted 1 (name 0 0) ∷ Line 6
+    ∷ Accepted 1 (name 0 1) ∷ Line 7 ∷ sends_zero 2 3 ∷ Line 8 ∷ Accepted 1 (name 0 2) ∷ Line 9 ∷ Ended (pos 0) ∷ [])
 
-pub record WorkedRuns : Type 0 where
+pub record WorkedLaw : Type 0 where
   pub lawful : (p : ℕ) → IsLawful (gathering p)
   pub lawful_talker : (p : ℕ) → IsLawful (talking p)
   -- the schedule makes this run; each process's clock in it, and the timestamps of the two letters

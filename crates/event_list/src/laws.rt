@@ -1,12 +1,13 @@
 //! The theorems on runs. Each function does nothing; its contract is the theorem.
 
 ghost use Rattle.event_list.specs.Example.{ExampleLaw};
-ghost use Rattle.event_list.specs.Worked.{WorkedRuns};
-ghost use Rattle.event_list.specs.Laws.{RunsAreSound, RaceLaw, ReplayPrefix, ClockLaw, StampLaw, TurnLaw, FinishLaw, ProgressLaw, WitnessLaw, ProjectionLaw, FullReplayLaw, LoggedLaw, TraceLaw, MessageLaw, ChannelLaw, FirstLaw, CutLaw, CutRunLaw, MaskLaw, FirstPickLaw, NeedLaw, RuleLaw};
+ghost use Rattle.event_list.specs.Worked.{WorkedLaw};
+ghost use Rattle.event_list.specs.WorkedOrder.{WorkedOrderLaw};
+ghost use Rattle.event_list.specs.Laws.{SoundLaw, RaceLaw, PrefixLaw, ClockLaw, StampLaw, TurnLaw, FinishLaw, ProgressLaw, WitnessLaw, ProjectionLaw, FullReplayLaw, LoggedLaw, TraceLaw, MessageLaw, ChannelLaw, FirstLaw, CutLaw, CutRunLaw, MaskLaw, FirstPickLaw, NeedLaw, RuleLaw, OrderLaw, FrontLaw, StepLaw, NotesLaw, PrintLaw, RoomLaw, CarryLaw, FormedLaw, LeastLaw, CheckLaw};
 
 /// Every run of lawful scripts is sound.
-pub fn runs_are_sound()
-    ensures { RunsAreSound }
+pub fn sound_law()
+    ensures { SoundLaw }
 {}
 
 /// A receive that could have taken a letter races with it exactly where it did not happen before its send.
@@ -15,8 +16,8 @@ pub fn race_law()
 {}
 
 /// A replay makes a prefix of what was recorded.
-pub fn replay_prefix()
-    ensures { ReplayPrefix }
+pub fn prefix_law()
+    ensures { PrefixLaw }
 {}
 
 /// Clocks and timestamps count pasts.
@@ -114,12 +115,67 @@ pub fn rule_law()
     ensures { RuleLaw }
 {}
 
+/// On an ordered channel letters are received in the order of their sends.
+pub fn order_law()
+    ensures { OrderLaw }
+{}
+
+/// The first turns make a front of what all turns make.
+pub fn front_law()
+    ensures { FrontLaw }
+{}
+
+/// A replay goes on by what its turns make, and its fronts are replays.
+pub fn step_law()
+    ensures { StepLaw }
+{}
+
+/// As a list grows its notes stay.
+pub fn notes_law()
+    ensures { NotesLaw }
+{}
+
+/// Lists with the same entries show the same.
+pub fn print_law()
+    ensures { PrintLaw }
+{}
+
+/// A replay that is to go on has room below the sum of the counts.
+pub fn room_law()
+    ensures { RoomLaw }
+{}
+
+/// A run's own moves make it again, and what is carried out is a run.
+pub fn carry_law()
+    ensures { CarryLaw }
+{}
+
+/// The trace of few events is well formed.
+pub fn formed_law()
+    ensures { FormedLaw }
+{}
+
+/// The least cut that meets a condition on each process alone is reached step by step.
+pub fn least_law()
+    ensures { LeastLaw }
+{}
+
+/// A run that keeps both pasts, by its counts, is a witness.
+pub fn check_law()
+    ensures { CheckLaw }
+{}
+
 /// Two senders and a receiver: the letter that comes second is logged.
-pub fn example()
+pub fn example_law()
     ensures { ExampleLaw }
 {}
 
 /// Worked runs: their clocks and timestamps, a replay under another schedule, and the finishing.
-pub fn worked_runs()
-    ensures { WorkedRuns }
+pub fn worked_law()
+    ensures { WorkedLaw }
+{}
+
+/// Worked runs under a mask: letters of one sender that overtake each other, and that don't.
+pub fn worked_order_law()
+    ensures { WorkedOrderLaw }
 {}

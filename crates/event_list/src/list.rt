@@ -1,30 +1,30 @@
 //! A list of events.
 
 ghost use Rattle.std.specs.Prelude.{◌≡◌, ◌+◌, ◌<◌, ◌≤◌, [], ◌∷◌, ◌++◌, length, take, slice_get, Some, IfOk, OnOk, OnErr, IsOk, position};
-ghost use Rattle.event_list.specs.Kept.{is_numbered};
+ghost use Rattle.event_list.specs.Stored.{IsBounded, is_numbered};
 
 use crate::Event;
-use nm_base::{ProcNo, WantOfMemory};
+use nm_base::{MAX_EVENTS, MAX_PROCESSES, ProcNo, WantOfMemory};
 use std::alloc::Global;
 use std::marker::Model;
 
-/// At most 1,000,000 events, in order. Contracts see the list, and how many more it takes in
-/// without memory.
+/// At most 1,000,000 events of processes below 32, in order. Contracts see the list, and how many more
+/// it takes in without memory.
 #[derive(Drop)]
 pub struct EventList {
     events: Vec<Event>,
 }
 
 impl Model for EventList {
-    ghost use Rattle.std.specs.Prelude.{◌-◌, ◌≤◌, length};
+    ghost use Rattle.std.specs.Prelude.{◌-◌};
     ghost use Rattle.std.specs.Vec.{vec_len, vec_capacity};
-    ghost use Rattle.event_list.specs.Kept.{Kept};
+    ghost use Rattle.event_list.specs.Stored.{Stored, IsBounded};
 
-    ghost Value = { Kept };
+    ghost Value = { Stored };
 
     ghost view = { λ l. record { events = l.events.items; spare = vec_capacity l.events - vec_len l.events } };
 
-    ghost invariant = { λ l. length l.events.items ≤ 1000000 };
+    ghost invariant = { λ l. IsBounded l.events.items };
 }
 
 impl EventList {
@@ -48,17 +48,19 @@ impl EventList {
     /// Puts an event last. It takes no memory where there is room. Where memory is refused the list
     /// is as before.
     pub fn push(&mut self, _alloc: Global, e: Event) -> Result<(), WantOfMemory>
-        requires { length self.old.events < 1000000 }
+        requires room { length self.old.events < MAX_EVENTS }
+        requires process { e.proc.no < MAX_PROCESSES }
         ensures pushed { OnOk result (self.new.events ≡ self.old.events ++ e ∷ []) }
         ensures refused { OnErr result (self.new.events ≡ self.old.events) }
-        ensures room { 0 < self.old.spare → IsOk result }
+        ensures sure { 0 < self.old.spare → IsOk result }
     {
         self.events.push(e).map_err(|_| WantOfMemory)
     }
 
     /// The number of events.
     pub fn len(&self) -> u32
-        ensures { result ≡ length self.now.events }
+        ensures exact { result ≡ length self.now.events }
+        ensures bounded { IsBounded self.now.events }
     {
         self.events.len() as u32
     }
@@ -66,7 +68,8 @@ impl EventList {
     /// The event at this place, from 0.
     pub fn at(&self, i: u32) -> &Event
         requires { i < length self.now.events }
-        ensures { slice_get self.now.events i ≡ Some result.now }
+        ensures event { slice_get self.now.events i ≡ Some result.now }
+        ensures process { result.now.proc.no < MAX_PROCESSES }
     {
         &self.events[i as usize]
     }

@@ -1,7 +1,7 @@
 //! A list of three events.
 
 use crate::{Event, EventList};
-use nm_base::{Kind, ProcNo};
+use nm_base::{Kind, MAX_EVENTS, ProcNo};
 use std::test::Fail;
 
 /// Events keep their order; places are found, and cut off.
@@ -14,7 +14,7 @@ fn keeps_events(rt: HostRuntime) -> Result<(), Fail> {
             number,
             kind: Kind::Line { line: 3 },
         };
-        if list.len() < 1000000 {
+        if list.len() < MAX_EVENTS {
             list.reserve(rt.alloc())?;
             list.push(rt.alloc(), event)?;
         }

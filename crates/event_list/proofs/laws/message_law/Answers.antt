@@ -4,4 +4,4 @@ use Rattle.event_list.proofs.MessageFacts.{messages_part}
 use Rattle.event_list.proofs.laws.message_law.Goals as goal
 
 pub returns : goal.returns
-returns c = λ s T E R p law run trace replay. messages_part (runs_sound s law replay.run) (runs_sound s law run) (replay_is_part s law T E R run trace replay) p
+returns c = λ s T E R p h replay. messages_part (runs_sound s h.lawful replay.run) (runs_sound s h.lawful h.run) (replay_is_part s h.lawful T E R h.run h.trace replay) p

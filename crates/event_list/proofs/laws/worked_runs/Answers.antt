@@ -1,5 +1,0 @@
-use Rattle.event_list.proofs.WorkedFacts.{worked}
-use Rattle.event_list.proofs.laws.worked_runs.Goals as goal
-
-pub returns : goal.returns
-returns c = worked
