@@ -1,12 +1,12 @@
 -- Facts on lists of letters.
 use Rattle.std.proofs.Common.{◌≡◌, ℕ, zero, suc, ◌+◌, ◌^◌, ◌<◌, ◌≤◌, Bool, true, false, cond, List, [], ◌∷◌, ◌++◌, length, take, drop, get_or, None, refl, sym, ap, ◌∙◌, subst, inl, inr, arith, add-one}
-use Rattle.std.specs.Prelude.{filter, Contains, slice_get, map}
+use Rattle.std.specs.Prelude.{filter, Contains, slice_get, map, ◌⊎◌, ◌==◌, ◌&&◌}
 use Rattle.std.specs.List.{IsDistinct, AllByRecursion}
 use Rattle.std.proofs.Math.Seq.{drop-cons}
 use Rattle.std.proofs.Math.ListN.{drop_of_length-le}
-use Rattle.std.proofs.lemmas.Bool.{false≢true, and_parts, eqb-true}
+use Rattle.std.proofs.lemmas.Bool.{false≢true, and_parts, eq-eqb, eqb-true}
 use Rattle.std.proofs.lemmas.List.{take_more, take_all}
-use Rattle.std.proofs.lemmas.List.Elements.{Contains-push_cases}
+use Rattle.std.proofs.lemmas.List.Elements.{Contains-push_cases, Contains-append_cases}
 use Rattle.nm_base.specs.declared.letter.Letter.{Letter}
 use Rattle.nm_base.specs.declared.letter.LetterId.{LetterId}
 use Rattle.mailboxes.specs.Letters.{Rises, same_letter, is_named, Leaves}
@@ -36,12 +36,22 @@ module _ {X : Type 0} (test : X → Bool) where
   pub none_at_all : (xs : List X) (i : ℕ) → length xs ≤ i → ((w : X) → Contains (take i xs) w → test w ≡ false) → (w : X) → Contains xs w → test w ≡ true → ⊥
   none_at_all xs i l h w c t = false≢true (sym (h w (subst (λ ys. Contains ys w) (sym (take_all i xs l)) c)) ∙ t)
 
+-- what an element at the front and those behind it are
+empty : {X : Type 0} (x : X) → Contains [] x → ⊥
+empty x h = omega (arith, h.1)
+
+pub cons_cases : {X : Type 0} (x : X) (xs : List X) (y : X) → Contains (x ∷ xs) y → (x ≡ y) ⊎ Contains xs y
+cons_cases x xs y h = elim (Contains-append_cases (x ∷ []) xs y h) [
+  | inl a ↦ elim (Contains-push_cases [] x y a) [ inl e ↦ absurd (empty y e) | inr e ↦ inl e ]
+  | inr b ↦ inr b
+]
+
 some_below : {X : Type 0} (xs : List X) (k : ℕ) → k < length xs → None ≡ slice_get xs k → ⊥
 some_below [] k l h = omega (arith, l)
 some_below (x ∷ xs) zero l h = absurd (cc)
 some_below (x ∷ xs) (suc k) l h = some_below xs k (omega (arith, l)) h
 
-length-map' : {X Y : Type 0} (f : X → Y) (xs : List X) → length (map f xs) ≡ length xs
+pub length-map' : {X Y : Type 0} (f : X → Y) (xs : List X) → length (map f xs) ≡ length xs
 length-map' f [] = refl
 length-map' f (x ∷ xs) = ap suc (length-map' f xs)
 
@@ -147,3 +157,33 @@ distinct_without (l ∷ ls) (suc i) d = (all_without (λ w. same_letter l w ≡ 
 pub distinct_none : (ls : List Letter) → ls ≡ [] → IsDistinct same_letter ls
 unfolding IsDistinct
 distinct_none ls h = subst (IsDistinct same_letter) (sym h) tt
+
+all_in : {X : Type 0} (P : X → Type 0) (xs : List X) (x : X) → AllByRecursion P xs → Contains xs x → P x
+all_in P [] x h c = absurd (empty x c)
+all_in P (y ∷ xs) x h c = elim (cons_cases y xs x c) [ inl e ↦ subst P e h.0 | inr d ↦ all_in P xs x h.1 d ]
+
+two_named : (id : LetterId) (k l : Letter) → is_named id k ≡ true → is_named id l ≡ true → same_letter k l ≡ true
+two_named id k l h m =
+    let a = and_parts _ _ h in let b = and_parts _ _ m in
+    let s : k.id.sender.no ≡ l.id.sender.no = eqb-true k.id.sender.no id.sender.no a.0 ∙ sym (eqb-true l.id.sender.no id.sender.no b.0) in
+    let n : k.id.number ≡ l.id.number = eqb-true k.id.number id.number a.1 ∙ sym (eqb-true l.id.number id.number b.1) in
+    ap (λ b. b && (k.id.number == l.id.number)) (eq-eqb k.id.sender.no l.id.sender.no s) ∙ eq-eqb k.id.number l.id.number n
+
+-- one letter has the name
+pub one_named : (id : LetterId) (ls : List Letter) → IsDistinct same_letter ls → (k l : Letter) → Contains ls k → Contains ls l → is_named id k ≡ true → is_named id l ≡ true → k ≡ l
+unfolding IsDistinct
+one_named id [] d k l c e h m = absurd (empty k c)
+one_named id (x ∷ ls) d k l c e h m = elim (cons_cases x ls k c) [
+  | inl p ↦ elim (cons_cases x ls l e) [
+    | inl q ↦ sym p ∙ q
+    | inr q ↦ absurd (false≢true (sym (all_in (λ w. same_letter x w ≡ false) ls l d.0 q) ∙ two_named id x l (ap (is_named id) p ∙ h) m))
+  ]
+  | inr p ↦ elim (cons_cases x ls l e) [
+    | inl q ↦ absurd (false≢true (sym (all_in (λ w. same_letter x w ≡ false) ls k d.0 p) ∙ two_named id x k (ap (is_named id) q ∙ m) h))
+    | inr q ↦ one_named id ls d.1 k l p q h m
+  ]
+]
+
+-- what is asked of the letter of a name
+pub asked_of : (id : LetterId) (ls : List Letter) (l w : Letter) (b : Bool) (test : Letter → Bool) → IsDistinct same_letter ls → Contains ls l → is_named id l ≡ true → Contains ls w → is_named id w ≡ true → b ≡ test l → b ≡ test w
+asked_of id ls l w b test d c m e n h = h ∙ ap test (one_named id ls d l w c e m n)

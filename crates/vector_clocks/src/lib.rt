@@ -37,6 +37,15 @@ impl Clocks {
         }
     }
 
+    /// Clocks with the same parts.
+    pub fn copy(&self) -> Clocks
+        ensures { result ≡ self.now }
+    {
+        Clocks {
+            stamps: self.stamps,
+        }
+    }
+
     /// Counts one more event of the process in its own clock. That part must be below 4,294,967,295.
     pub fn tick(&mut self, p: ProcNo)
         requires process { p.no < 32 }

@@ -2,7 +2,6 @@
 use Rattle.std.proofs.Common.{◌≡◌, ℕ, zero, suc, ◌%◌, true, false, Option, Some, None, cond, List, [], length, replicate, get_or, refl, ap, ◌∙◌, subst}
 use Rattle.std.specs.Prelude.{slice_get, map, Contains}
 use Rattle.std.proofs.lemmas.Option.{same_Some, none-some}
-use Rattle.nm_base.specs.declared.letter.ProcNo.{ProcNo}
 use Rattle.nm_base.specs.declared.letter.Stamp.{Stamp}
 use Rattle.nm_base.specs.declared.letter.Letter.{Letter}
 use Rattle.nm_base.specs.declared.kind.Kind.{Kind}
@@ -13,7 +12,7 @@ use Rattle.nm_base.specs.Message.{Message, message_of}
 use Rattle.nm_base.specs.Scripts.{Script, Next, Goes, Wants, Over, IsLawful}
 use Rattle.processes.specs.Listed.{listed}
 use Rattle.processes.specs.ListedFacts.{listed_lawful}
-use Rattle.processes.specs.Standing.{Shows, IsOver}
+use Rattle.processes.specs.Standing.{Standing, Shows, IsOver}
 use Rattle.vector_clocks.specs.Parts.{part_of}
 use Rattle.event_list.specs.declared.Event.{Event}
 use Rattle.event_list.specs.Events.{count}
@@ -35,24 +34,24 @@ over_shown (Waiting set) (Goes kind) o h = absurd o
 over_shown Able (Wants set) o h = absurd o
 over_shown (Waiting set) (Wants other) o h = absurd o
 
-pub over_turn : (rule : Rule) (E : List Event) (p pick : ℕ) (n : Next) → n ≡ Over → next_under 0 rule E p pick n ≡ turns.Stays turns.IsOver
-over_turn rule E p pick n h = ap (next_under 0 rule E p pick) h
+pub over_turn : (M : ℕ) (rule : Rule) (E : List Event) (p pick : ℕ) (n : Next) → n ≡ Over → next_under M rule E p pick n ≡ turns.Stays turns.IsOver
+over_turn M rule E p pick n h = ap (next_under M rule E p pick) h
 
 -- a process that the gate stops
-pub stopped_turn : (rule : Rule) (E : List Event) (p pick : ℕ) (look : Look) (n : Next) → (IsOver look → ⊥) → Shows look n → rule.lets_go p (count E p) ≡ false → next_under 0 rule E p pick n ≡ turns.Stays turns.AtCount
-stopped_turn rule E p pick look (Goes kind) o h stop = ap (λ b. cond b (turns.Went (turns.next_event E p kind)) (turns.Stays turns.AtCount)) stop
-stopped_turn rule E p pick look (Wants set) o h stop = ap (λ b. cond b (turns.taking E p set (slice_get (allowed_under 0 rule E p set) (pick % length (allowed_under 0 rule E p set)))) (turns.Stays turns.AtCount)) stop
-stopped_turn rule E p pick Able Over o h stop = absurd h
-stopped_turn rule E p pick (Waiting set) Over o h stop = absurd h
-stopped_turn rule E p pick (Ended value) Over o h stop = absurd (o tt)
-stopped_turn rule E p pick (Faulted cause) Over o h stop = absurd (o tt)
+pub stopped_turn : (M : ℕ) (rule : Rule) (E : List Event) (p pick : ℕ) (look : Look) (n : Next) → (IsOver look → ⊥) → Shows look n → rule.lets_go p (count E p) ≡ false → next_under M rule E p pick n ≡ turns.Stays turns.AtCount
+stopped_turn M rule E p pick look (Goes kind) o h stop = ap (λ b. cond b (turns.Went (turns.next_event E p kind)) (turns.Stays turns.AtCount)) stop
+stopped_turn M rule E p pick look (Wants set) o h stop = ap (λ b. cond b (turns.taking E p set (slice_get (allowed_under M rule E p set) (pick % length (allowed_under M rule E p set)))) (turns.Stays turns.AtCount)) stop
+stopped_turn M rule E p pick Able Over o h stop = absurd h
+stopped_turn M rule E p pick (Waiting set) Over o h stop = absurd h
+stopped_turn M rule E p pick (Ended value) Over o h stop = absurd (o tt)
+stopped_turn M rule E p pick (Faulted cause) Over o h stop = absurd (o tt)
 
 -- a process that goes
-pub made_turn : (rule : Rule) (E : List Event) (p pick : ℕ) (n : Next) (kind : Kind) → n ≡ Goes kind → rule.lets_go p (count E p) ≡ true → next_under 0 rule E p pick n ≡ turns.Went (turns.next_event E p kind)
-made_turn rule E p pick n kind h may = ap (next_under 0 rule E p pick) h ∙ ap (λ b. cond b (turns.Went (turns.next_event E p kind)) (turns.Stays turns.AtCount)) may
+pub made_turn : (M : ℕ) (rule : Rule) (E : List Event) (p pick : ℕ) (n : Next) (kind : Kind) → n ≡ Goes kind → rule.lets_go p (count E p) ≡ true → next_under M rule E p pick n ≡ turns.Went (turns.next_event E p kind)
+made_turn M rule E p pick n kind h may = ap (next_under M rule E p pick) h ∙ ap (λ b. cond b (turns.Went (turns.next_event E p kind)) (turns.Stays turns.AtCount)) may
 
-pub took_turn : (rule : Rule) (E : List Event) (p pick : ℕ) (n : Next) (set : ℕ) → n ≡ Wants set → rule.lets_go p (count E p) ≡ true → next_under 0 rule E p pick n ≡ turns.taking E p set (slice_get (allowed_under 0 rule E p set) (pick % length (allowed_under 0 rule E p set)))
-took_turn rule E p pick n set h may = ap (next_under 0 rule E p pick) h ∙ ap (λ b. cond b (turns.taking E p set (slice_get (allowed_under 0 rule E p set) (pick % length (allowed_under 0 rule E p set)))) (turns.Stays turns.AtCount)) may
+pub took_turn : (M : ℕ) (rule : Rule) (E : List Event) (p pick : ℕ) (n : Next) (set : ℕ) → n ≡ Wants set → rule.lets_go p (count E p) ≡ true → next_under M rule E p pick n ≡ turns.taking E p set (slice_get (allowed_under M rule E p set) (pick % length (allowed_under M rule E p set)))
+took_turn M rule E p pick n set h may = ap (next_under M rule E p pick) h ∙ ap (λ b. cond b (turns.taking E p set (slice_get (allowed_under M rule E p set) (pick % length (allowed_under M rule E p set)))) (turns.Stays turns.AtCount)) may
 
 no_parts : (n p : ℕ) → get_or (let z : ℕ = 0 in replicate n z) p 0 ≡ 0
 no_parts zero p = nothing p
@@ -63,7 +62,7 @@ no_parts (suc n) zero = refl
 no_parts (suc n) (suc p) = no_parts n p
 
 -- scripts for processes each of which begins one
-module _ {P : Type 0} (stands_for : P → Script → List Message → ℕ → Type 0) (lawful : (x : P) (s : Script) (letters : List Message) (k : ℕ) → stands_for x s letters k → IsLawful s) (ps : List P) (begins : (p : ℕ) (x : P) → slice_get ps p ≡ Some x → (s : Script) × stands_for x s [] 0) where
+module _ {P : Type 0} (stands_for : P → Standing) (lawful : (x : P) (s : Script) (letters : List Message) (k : ℕ) → stands_for x s letters k → IsLawful s) (ps : List P) (begins : (p : ℕ) (x : P) → slice_get ps p ≡ Some x → (s : Script) × stands_for x s [] 0) where
   script_by : (p : ℕ) (o : Option P) → slice_get ps p ≡ o → Script
   script_by p None e = listed []
   script_by p (Some x) e = (begins p x e).0
@@ -85,19 +84,19 @@ module _ {P : Type 0} (stands_for : P → Script → List Message → ℕ → Ty
   )
 
 -- a world before its first event
-pub begun : {P M : Type 0} (stands_for : P → Script → List Message → ℕ → Type 0) (name_of : P → ProcNo) (letters_of : M → List Letter) (ps : List P) (m : M) (cs : List Stamp) (s : ℕ → Script)
-    → Begins stands_for ps s → ((p : ℕ) (x : P) → slice_get ps p ≡ Some x → name_of x ≡ record { no = p }) → letters_of m ≡ [] → ((p q : ℕ) → part_of cs p q ≡ 0)
-    → IsWorldOf stands_for name_of letters_of (record { processes = ps; mail = m; clocks = cs; receives = replicate 32 0; sent = 0; events = 0 }) s []
-begun stands_for name_of letters_of ps m cs s b names no_letters no_clock = record {
+pub begun : {P M : Type 0} (stands_for : P → Standing) (ps : List P) (m : M) (ls : List Letter) (mask : ℕ) (cs : List Stamp) (s : ℕ → Script)
+    → Begins stands_for ps s → ls ≡ [] → ((p q : ℕ) → part_of cs p q ≡ 0)
+    → IsWorldOf stands_for (record { processes = ps; mail = m; letters = ls; mask = mask; clocks = cs; receives = replicate 32 0; sent = 0; accepted = 0; events = 0 }) s []
+begun stands_for ps m ls mask cs s b no_letters no_clock = record {
   lawful = b.lawful;
   run = none;
   below = λ e c. absurd (empty e c);
   stands = b.stands;
-  names = names;
   mail = ap (map message_of) no_letters;
   posted = λ l c. absurd (empty l (subst (λ ls. Contains ls l) no_letters c));
   clock = no_clock;
-  accepted = no_parts 32;
+  receives = no_parts 32;
   sent = refl;
+  accepted = refl;
   events = refl;
 }

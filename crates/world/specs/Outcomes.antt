@@ -1,10 +1,10 @@
 -- What a turn of a world gives.
 use Rattle.std.specs.Prelude.{◌≡◌, ℕ, ◌%◌, ◌⊎◌, List, [], length, Option, Some, None, slice_get}
-use Rattle.nm_base.specs.declared.letter.ProcNo.{ProcNo}
 use Rattle.nm_base.specs.declared.letter.Letter.{Letter}
 use Rattle.nm_base.specs.declared.kind.Kind.{Kind}
-use Rattle.nm_base.specs.Message.{Message, message_of}
+use Rattle.nm_base.specs.Message.{message_of}
 use Rattle.nm_base.specs.Scripts.{Script, Goes, Wants}
+use Rattle.processes.specs.Standing.{Standing}
 use Rattle.event_list.specs.declared.Event.{Event}
 use Rattle.event_list.specs.Events.{count, messages, letter_of, taken_of}
 use Rattle.event_list.specs.Laws.{AreLawful}
@@ -35,28 +35,28 @@ abbrev pub CarriesIt : List Event → Turned → Type 0
 CarriesIt E (turned.Idle why) = Unit {0}
 CarriesIt E (turned.Went event letter) = Carries E event letter
 
--- the turn that it took is that of the definitions, and it stands for the events with what happened
-pub record HasTurned {P M : Type 0} (stands_for : P → Script → List Message → ℕ → Type 0) (name_of : P → ProcNo) (letters_of : M → List Letter) (rule : Rule) (w : Parts P M) (s : ℕ → Script) (E : List Event) (t : turns.Turn) (what : Turned) : Type 0 where
-  pub is : go_under s 0 rule E t ≡ outcome what
-  pub stands : IsWorldOf stands_for name_of letters_of w s (turns.after E (outcome what))
+-- the turn that it took is that of the definitions under the mask and the rule, and it stands for the events with what happened
+pub record HasTurned {P M : Type 0} (stands_for : P → Standing) (mask : ℕ) (rule : Rule) (w : Parts P M) (s : ℕ → Script) (E : List Event) (t : turns.Turn) (what : Turned) : Type 0 where
+  pub is : go_under s mask rule E t ≡ outcome what
+  pub stands : IsWorldOf stands_for w s (turns.after E (outcome what))
   pub carries : CarriesIt (turns.after E (outcome what)) what
 
 -- the process p made its next event
-pub record HasMade {P M : Type 0} (stands_for : P → Script → List Message → ℕ → Type 0) (name_of : P → ProcNo) (letters_of : M → List Letter) (w : Parts P M) (s : ℕ → Script) (E : List Event) (p : ℕ) (what : Turned) : Type 0 where
+pub record HasMade {P M : Type 0} (stands_for : P → Standing) (w : Parts P M) (s : ℕ → Script) (E : List Event) (p : ℕ) (what : Turned) : Type 0 where
   pub kind : Kind
   pub next : (s p).next (messages E p) (count E p) ≡ Goes kind
   pub is : turns.Went (turns.next_event E p kind) ≡ outcome what
-  pub stands : IsWorldOf stands_for name_of letters_of w s (turns.after E (outcome what))
+  pub stands : IsWorldOf stands_for w s (turns.after E (outcome what))
   pub carries : CarriesIt (turns.after E (outcome what)) what
 
 -- the process p, which wants a letter on a channel of the set, accepted the one that the pick names, if any is allowed
-pub record HasAccepted {P M : Type 0} (stands_for : P → Script → List Message → ℕ → Type 0) (name_of : P → ProcNo) (letters_of : M → List Letter) (rule : Rule) (w : Parts P M) (s : ℕ → Script) (E : List Event) (p set pick : ℕ) (what : Turned) : Type 0 where
+pub record HasAccepted {P M : Type 0} (stands_for : P → Standing) (mask : ℕ) (rule : Rule) (w : Parts P M) (s : ℕ → Script) (E : List Event) (p set pick : ℕ) (what : Turned) : Type 0 where
   pub next : (s p).next (messages E p) (count E p) ≡ Wants set
-  pub is : turns.taking E p set (slice_get (allowed_under 0 rule E p set) (pick % length (allowed_under 0 rule E p set))) ≡ outcome what
-  pub stands : IsWorldOf stands_for name_of letters_of w s (turns.after E (outcome what))
+  pub is : turns.taking E p set (slice_get (allowed_under mask rule E p set) (pick % length (allowed_under mask rule E p set))) ≡ outcome what
+  pub stands : IsWorldOf stands_for w s (turns.after E (outcome what))
   pub carries : CarriesIt (turns.after E (outcome what)) what
 
 -- processes at the beginning of their scripts
-pub record Begins {P : Type 0} (stands_for : P → Script → List Message → ℕ → Type 0) (processes : List P) (s : ℕ → Script) : Type 0 where
+pub record Begins {P : Type 0} (stands_for : P → Standing) (processes : List P) (s : ℕ → Script) : Type 0 where
   pub lawful : AreLawful s
   pub stands : (p : ℕ) (x : P) → slice_get processes p ≡ Some x → stands_for x (s p) [] 0

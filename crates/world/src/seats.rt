@@ -8,7 +8,7 @@ ghost use Rattle.processes.specs.Standing.{Makes, Takes, Stays, CanTake, accepti
 ghost use Rattle.nm_base.specs.Message.{message_of};
 ghost use Rattle.nm_base.specs.Scripts.{letter_made};
 ghost use Rattle.processes.specs.Seats.{process_in};
-ghost use Rattle.world.specs.Moves.{MadeAt, TookAt, StayedAt};
+ghost use Rattle.world.specs.Moves.{MadeAt, TookAt, StayedAt, AreCopies};
 
 use nm_base::{Kind, Letter, WantOfMemory};
 use processes::{Proc, Seat, Stepped};
@@ -50,6 +50,15 @@ impl<P: Proc> Seats<P> {
         &self.seats[i]
     }
 
+    /// Seats for copies of the processes.
+    pub(crate) fn copy(&self, alloc: Global) -> Result<Seats<P>, WantOfMemory>
+        ensures { IfOk result (λ s. AreCopies P.stands_for P.name_of P.origin_of self.now s (length self.now)) }
+    {
+        Ok(Seats {
+            seats: copies(alloc, self.seats.as_slice())?,
+        })
+    }
+
     /// Makes the next event of the process at the place. Its seat is moved out for that, and the
     /// last one stands in for it: no other seat is moved.
     pub(crate) fn step(
@@ -84,6 +93,22 @@ impl<P: Proc> Seats<P> {
         put_back(&mut self.seats, i, seat);
         kind
     }
+}
+
+/// Seats for copies of the processes in these.
+fn copies<P: Proc>(alloc: Global, seats: &[Seat<P>]) -> Result<Vec<Seat<P>>, WantOfMemory>
+    ensures { IfOk result (λ s. AreCopies P.stands_for P.name_of P.origin_of (map process_in seats.now) (map process_in s.items) (length seats.now)) }
+{
+    let mut copies = Vec::new(alloc);
+    for seat in seats {
+        let process = seat.process().copy(alloc)?;
+        let copy = Seat::begin(process);
+        match copies.push(copy) {
+            Ok(()) => {}
+            Err(_) => return Err(WantOfMemory),
+        }
+    }
+    Ok(copies)
 }
 
 /// Puts a seat back at the place where one was taken out, and the one that stood in for it back to

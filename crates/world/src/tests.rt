@@ -56,7 +56,7 @@ fn one_talker(alloc: Global) -> Result<World<Listed, ListMail>, WantOfMemory> {
         Ok(()) => {}
         Err(_) => return Err(WantOfMemory),
     }
-    World::new(alloc, seats)
+    World::new(alloc, seats, 0)
 }
 
 fn next(world: &mut World<Listed, ListMail>, alloc: Global) -> Result<Turned, WantOfMemory> {

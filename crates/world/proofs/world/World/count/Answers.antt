@@ -7,5 +7,5 @@ pub returns : goal.returns
 returns g c s E now =
     let p = c.args.p.no in
     let x = process_in c.seat.result.now in
-    let told = g.met.P.Proc.counts x (s p) (messages E p) (count E p) (now.stands p x c.seat.ensures) in
+    let told = g.met.P.Proc.counts x (s p) (messages E p) (count E p) (now.stands p x c.seat.ensures.process) in
     c.count.ensures ∙ ap g.P.Proc.count_of c.process.ensures.process ∙ sym told

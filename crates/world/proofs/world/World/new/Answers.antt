@@ -16,16 +16,15 @@ invariant_of-result g c =
       few = omega (arith, many, c.requires.few);
       room = omega arith;
       each = refl;
+      names = λ p x at. c.requires.names p x (ap (λ ps. slice_get ps p) (sym seen) ∙ at);
       run = (
         s.0,
         [],
-        begun g.P.Proc.stands_for g.P.Proc.name_of g.M.Mail.letters c.new.result c.in_ok-mail.mail c.new-clocks.result s.0 s.1
-            (λ p x at. c.requires.names p x (ap (λ ps. slice_get ps p) (sym seen) ∙ at)) c.in_ok-mail.ensures c.new-clocks.ensures,
+        begun g.P.Proc.stands_for c.new.result c.in_ok-mail.mail _ _ c.new-clocks.result s.0 s.1 c.in_ok-mail.ensures.none c.new-clocks.ensures,
       );
     }
 
 pub returns-clause-stands : goal.returns-clause-stands
 returns-clause-stands g c s b =
     let seen = c.new.ensures in
-    begun g.P.Proc.stands_for g.P.Proc.name_of g.M.Mail.letters c.new.result c.in_ok-mail.mail c.new-clocks.result s (subst (λ ps. Begins g.P.Proc.stands_for ps s) (sym seen) b)
-    (λ p x at. c.requires.names p x (ap (λ ps. slice_get ps p) (sym seen) ∙ at)) c.in_ok-mail.ensures c.new-clocks.ensures
+    begun g.P.Proc.stands_for c.new.result c.in_ok-mail.mail _ _ c.new-clocks.result s (subst (λ ps. Begins g.P.Proc.stands_for ps s) (sym seen) b) c.in_ok-mail.ensures.none c.new-clocks.ensures
