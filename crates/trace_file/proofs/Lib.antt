@@ -1,0 +1,9 @@
+pub mod Marks
+pub mod Shapes
+pub mod Counts
+pub mod Cells
+pub mod Passing
+pub mod Headed
+pub mod Ending
+pub mod Fronts
+pub mod Walk
