@@ -1,248 +1,179 @@
--- Which need of a command an answer is owed to.
-use Rattle.std.proofs.Common.{◌≡◌, ◌≢◌, ◌≤◌, ◌<◌, ℕ, List, [], ◌∷◌, length, Option, None, Some, IfSome, MatchOption, inl, inr, refl, ap, sym, ◌∙◌, subst, arith}
-use Rattle.std.specs.Prelude.{◌⊎◌}
-use Rattle.std.specs.Option.{IsNone, IsSomeAnd}
+-- Which demand of a command decides its status.
+use Rattle.std.proofs.Common.{◌≡◌, ◌≢◌, ◌≤◌, ◌<◌, ℕ, List, [], ◌∷◌, length, Bool, true, false, Option, None, Some, IfSome, MatchOption, inl, inr, refl, ap, sym, ◌∙◌, subst, arith}
+use Rattle.std.specs.Prelude.{◌⊎◌, IsNone, IsSomeAnd}
 use Rattle.std.specs.FinMap.{get}
+use Rattle.std.proofs.lemmas.Bool.{false≢true}
 use Rattle.nm_outside.specs.Files.{Files}
-use Rattle.report.specs.Texts.{usage_line}
-use Rattle.report.specs.Runs.{blocks}
+use Rattle.report.specs.Texts.{usage_line, absent_line, read_fault_line, too_long_line}
 use Rattle.nm_top.specs.declared.status.Status.{Status}
-use Rattle.nm_top.specs.declared.status.Status.TheVariants.{Done, Usage, Absent, ReadFault, WriteFault, TooLong, ProgramRefused, ScheduleRefused, WantOfMemory}
-use Rattle.nm_top.specs.Commands.{Command, Run, command_of}
-use Rattle.nm_top.specs.Programs.{Reads}
-use Rattle.nm_top.specs.Schedules.{IsSchedule}
-use Rattle.nm_top.specs.Replies.{Reply, Says, Fetching, Reading, Answers, Owed}
-use Rattle.nm_top.specs.Needs.{Need, ProgramText, ScheduleText, name_of, limit_of, Admits, refusal_of, IsMissing, IsPastLimit, IsRefused, IsMet, AreMet, IsDue}
-use Rattle.nm_top.specs.RunAnswers.{RunAnswer, RefusesProgram, RefusesSchedule, ReadingSchedule, run_of_program}
-use Rattle.nm_top.specs.Answers.{CommandAnswer, Answer, needs_of, Due, Ready}
-use Rattle.nm_top.specs.Stops.{Outside}
-use Rattle.nm_top.specs.Does.{Does}
-use Rattle.nm_top.proofs.FileLaws.{Follows}
+use Rattle.nm_top.specs.declared.status.Status.TheVariants.{Done, Usage, Absent, ReadFault, WriteFault, TooLong}
+use Rattle.nm_top.specs.Commands.{Command, command_of}
+use Rattle.nm_top.specs.Statuses.{is_of_files}
+use Rattle.nm_top.specs.Replies.{Reply, Says, Answers, Owed}
+use Rattle.nm_top.specs.Demands.{Demand, Fetch, fetch_of, refusal_of, Admits, Holds, HoldsIn, IsMissing, IsPastLimit, IsMet, AreMet, FailsAs, missing, too_long, refused, FirstFailsAs}
+use Rattle.nm_top.specs.Answers as answers
+use Rattle.nm_top.specs.Answers.{IsReason, Refuses, FailsToRead, Demanding, IsDone, CommandAnswer, Answer, demands_of, Due, Ready}
+use Rattle.nm_outside.specs.Causes.{Rose}
 
--- ---- what comes of needs, in their order
+-- ---- how one demand fails
 
--- a need that isn't met though it was read, and its status
-Head : Need → Files → Status → Type 0
-Head need held status = (IsMissing need held × (status ≡ Absent)) ⊎ ((IsPastLimit need held × (status ≡ TooLong)) ⊎ IsRefused status need held)
-
-Comes : Files → List Need → Status → Type 0
-Comes held [] status = status ≡ Done
-Comes held (need ∷ needs) status = (status ≡ ReadFault) ⊎ (Head need held status ⊎ (IsMet need held × Comes held needs status))
-
-module _ {X : Type 0} (need : Need) (reads : List ℕ → X → Type 0) (held : Files) (refuses : List ℕ → Reply → Type 0) (then : X → Reply → Type 0)
-    (meant : (text : List ℕ) → (x : X) × reads text x → Admits need text) (back : (text : List ℕ) → Admits need text → (x : X) × reads text x)
-    (told : (text : List ℕ) (reply : Reply) → refuses text reply → reply.status ≡ refusal_of need) (needs : List Need)
-  where
-    -- what comes of a file, and then of those that are needed after it
-    comes_by : (reply : Reply) → Fetching held (name_of need) (limit_of need) (λ text. Reading (reads text) (refuses text) then) reply
-        → ((x : X) → then x reply → Comes held needs reply.status) → Comes held (need ∷ needs) reply.status
-    unfolding Head Comes
-    comes_by reply h rest = by (get held (name_of need)) refl h
-      where
-        there : (o : Option (List ℕ)) (P : List ℕ → Type 0) → get held (name_of need) ≡ o → IsSomeAnd o P → IsSomeAnd (get held (name_of need)) P
-        there o P e p = subst (λ (x : Option (List ℕ)). IsSomeAnd x P) (sym e) p
-
-        read : (text : List ℕ) → get held (name_of need) ≡ Some text → length text ≤ limit_of need → Reading (reads text) (refuses text) then reply → Comes held (need ∷ needs) reply.status
-        read text e few (inl r) = inr (inr (there (Some text) (λ t. (length t ≤ limit_of need) × Admits need t) e (few, meant text (r.0, r.1)), rest r.0 r.2))
-        read text e few (inr r) =
-            inr (inl (inr (inr (sym (told text reply r.1), there (Some text) (λ t. (length t ≤ limit_of need) × (Admits need t → ⊥)) e (few, λ m. let x = back text m in r.0 x.0 x.1)))))
-
-        by : (o : Option (List ℕ)) → get held (name_of need) ≡ o → Follows o held (name_of need) (limit_of need) (λ text. Reading (reads text) (refuses text) then) reply
-            → Comes held (need ∷ needs) reply.status
-        by None e (inl fault) = inl (ap (λ (r : Reply). r.status) fault)
-        by None e (inr says) = inr (inl (inl (subst IsNone (sym e) refl, ap (λ (r : Reply). r.status) says)))
-        by (Some text) e (inl fault) = inl (ap (λ (r : Reply). r.status) fault)
-        by (Some text) e (inr (inl w)) = read text e w.0 w.1
-        by (Some text) e (inr (inr w)) = inr (inl (inr (inl (there (Some text) (λ t. limit_of need < length t) e w.0, ap (λ (r : Reply). r.status) w.1))))
-
-comes_run : (program : List ℕ) (n : ℕ) (schedule : List ℕ) (held : Files) (reply : Reply) → RunAnswer program n schedule held reply → Comes held (needs_of (Run program n schedule)) reply.status
-unfolding Comes
-comes_run program n schedule held reply h =
-    comes_by (ProgramText program) Reads held (RefusesProgram held) (λ p. ReadingSchedule held schedule n (λ turns. Says held Done (blocks p n (run_of_program p n turns)))) (λ text m. m)
-    (λ text m. m) (λ text r k. ap (λ (q : Reply). q.status) k.2) (ScheduleText schedule n ∷ []) reply h
-    (λ p k. comes_by (ScheduleText schedule n) (IsSchedule n) held (RefusesSchedule held n) (λ turns. Says held Done (blocks p n (run_of_program p n turns))) (λ text m. m) (λ text m. m)
-    (λ text r l. ap (λ (q : Reply). q.status) l.2) [] reply k
-    (λ turns says. ap (λ (q : Reply). q.status) says))
-
-comes : (command : Command) (held : Files) (reply : Reply) → CommandAnswer command held reply → Comes held (needs_of command) reply.status
-comes (Run program n schedule) held reply h = comes_run program n schedule held reply h
-
--- ---- the need that is due
-
--- where a status is neither Done nor ReadFault, what its need says is due
-due_of : (P : Need → Files → Type 0) (held : Files) (needs : List Need) (status : Status) → ((need : Need) → Head need held status → P need held) → status ≢ Done
-    → status ≢ ReadFault → Comes held needs status → IsDue P needs held
-unfolding Comes
-due_of P held [] status f n r h = absurd (n h)
-due_of P held (need ∷ needs) status f n r (inl h) = absurd (r h)
-due_of P held (need ∷ needs) status f n r (inr (inl h)) = inl (f need h)
-due_of P held (need ∷ needs) status f n r (inr (inr h)) = inr (h.0, due_of P held needs status f n r h.1)
-
--- texts that meet a need, that pass its limit, and that it doesn't admit
-abbrev Meets : Need → List ℕ → Type 0
-Meets need text = (length text ≤ limit_of need) × Admits need text
-
-abbrev Passes : Need → List ℕ → Type 0
-Passes need text = limit_of need < length text
-
-abbrev Fails : Need → List ℕ → Type 0
-Fails need text = (length text ≤ limit_of need) × (Admits need text → ⊥)
-
-both : {X : Type 0} (P Q : X → Type 0) (o : Option X) → IsSomeAnd o P → IsSomeAnd o Q → (x : X) × P x × Q x
-both P Q None p q = absurd p
-both P Q (Some x) p q = (x, p, q)
-
-none_some : {X : Type 0} (P : X → Type 0) (o : Option X) → IsNone o → IsSomeAnd o P → ⊥
-none_some P None n p = absurd p
-none_some P (Some x) n p = absurd cc
-
-unmet : (need : Need) (held : Files) (status : Status) → Head need held status → IsMet need held → ⊥
-unfolding Head
-unmet need held status (inl h) m = none_some (Meets need) (get held (name_of need)) h.0 m
-unmet need held status (inr (inl h)) m = let b = both (Passes need) (Meets need) (get held (name_of need)) h.0 m in absurd (omega (arith, b.1, b.2.0))
-unmet need held status (inr (inr h)) m = let b = both (Fails need) (Meets need) (get held (name_of need)) h.1 m in b.1.1 b.2.1
-
--- what is due decides the status
-settled : (P : Need → Files → Type 0) (held : Files) (S : Status) → ((need : Need) (status : Status) → P need held → Head need held status → status ≡ S) → ((need : Need) → P need held
-    → IsMet need held → ⊥)
-    → (needs : List Need) (status : Status) → status ≢ ReadFault → IsDue P needs held → Comes held needs status → status ≡ S
-unfolding Comes
-settled P held S f g [] status r d h = absurd d
-settled P held S f g (need ∷ needs) status r d (inl h) = absurd (r h)
-settled P held S f g (need ∷ needs) status r (inl p) (inr (inl h)) = f need status p h
-settled P held S f g (need ∷ needs) status r (inl p) (inr (inr h)) = absurd (g need p h.0)
-settled P held S f g (need ∷ needs) status r (inr d) (inr (inl h)) = absurd (unmet need held status h d.0)
-settled P held S f g (need ∷ needs) status r (inr d) (inr (inr h)) = settled P held S f g needs status r d.1 h.1
-
-all_met : (held : Files) (needs : List Need) (status : Status) → status ≢ ReadFault → AreMet needs held → Comes held needs status → status ≡ Done
-unfolding Comes
-all_met held [] status r m h = h
-all_met held (need ∷ needs) status r m (inl h) = absurd (r h)
-all_met held (need ∷ needs) status r m (inr (inl h)) = absurd (unmet need held status h m.0)
-all_met held (need ∷ needs) status r m (inr (inr h)) = all_met held needs status r m.1 h.1
-
--- ---- each status by its need
-
-no_refusal : (need : Need) (S : Status) → S ≢ ProgramRefused → S ≢ ScheduleRefused → refusal_of need ≡ S → ⊥
-no_refusal (ProgramText name) S p s e = p (sym e)
-no_refusal (ScheduleText name n) S p s e = s (sym e)
-
-head_absent : (held : Files) (need : Need) → Head need held Absent → IsMissing need held
-unfolding Head
-head_absent held need (inl h) = h.0
-head_absent held need (inr (inl h)) = let e = h.1 in absurd cc
-head_absent held need (inr (inr h)) = absurd (no_refusal need Absent (λ e. absurd cc) (λ e. absurd cc) h.0)
-
-head_long : (held : Files) (need : Need) → Head need held TooLong → IsPastLimit need held
-unfolding Head
-head_long held need (inl h) = let e = h.1 in absurd cc
-head_long held need (inr (inl h)) = h.0
-head_long held need (inr (inr h)) = absurd (no_refusal need TooLong (λ e. absurd cc) (λ e. absurd cc) h.0)
-
-head_refused : (S : Status) → S ≢ Absent → S ≢ TooLong → (held : Files) (need : Need) → Head need held S → IsRefused S need held
-unfolding Head
-head_refused S a t held need (inl h) = absurd (a h.1)
-head_refused S a t held need (inr (inl h)) = absurd (t h.1)
-head_refused S a t held need (inr (inr h)) = h
-
-missing_head : (held : Files) (need : Need) (status : Status) → IsMissing need held → Head need held status → status ≡ Absent
-unfolding Head
-missing_head held need status m (inl h) = h.1
-missing_head held need status m (inr (inl h)) = absurd (none_some (Passes need) (get held (name_of need)) m h.0)
-missing_head held need status m (inr (inr h)) = absurd (none_some (Fails need) (get held (name_of need)) m h.1)
-
-long_head : (held : Files) (need : Need) (status : Status) → IsPastLimit need held → Head need held status → status ≡ TooLong
-unfolding Head
-long_head held need status m (inl h) = absurd (none_some (Passes need) (get held (name_of need)) h.0 m)
-long_head held need status m (inr (inl h)) = h.1
-long_head held need status m (inr (inr h)) = let b = both (Passes need) (Fails need) (get held (name_of need)) m h.1 in absurd (omega (arith, b.1, b.2.0))
-
-refused_head : (S : Status) (held : Files) (need : Need) (status : Status) → IsRefused S need held → Head need held status → status ≡ S
-unfolding Head
-refused_head S held need status m (inl h) = absurd (none_some (Fails need) (get held (name_of need)) h.0 m.1)
-refused_head S held need status m (inr (inl h)) = let b = both (Passes need) (Fails need) (get held (name_of need)) h.0 m.1 in absurd (omega (arith, b.1, b.2.0))
-refused_head S held need status m (inr (inr h)) = sym h.0 ∙ m.0
-
-missing_unmet : (held : Files) (need : Need) → IsMissing need held → IsMet need held → ⊥
-missing_unmet held need p m = none_some (Meets need) (get held (name_of need)) p m
-
-long_unmet : (held : Files) (need : Need) → IsPastLimit need held → IsMet need held → ⊥
-long_unmet held need p m = let b = both (Passes need) (Meets need) (get held (name_of need)) p m in absurd (omega (arith, b.1, b.2.0))
-
-refused_unmet : (S : Status) (held : Files) (need : Need) → IsRefused S need held → IsMet need held → ⊥
-refused_unmet S held need p m = let b = both (Fails need) (Meets need) (get held (name_of need)) p.1 m in b.1.1 b.2.1
-
--- ---- an answer, and what is due
-
--- a status that says what a need gave
-pub record IsDefined (S : Status) : Type 0 where
-  pub no_usage : S ≢ Usage
-  pub no_done : S ≢ Done
-  pub no_read_fault : S ≢ ReadFault
-  pub no_write_fault : S ≢ WriteFault
-  pub no_want : S ≢ WantOfMemory
-
-module _ (words : List (List ℕ)) (before after : Outside) (status : Status) (d : Does words before after status) where
-  answer_due : (P : Need → Files → Type 0) (S : Status) → IsDefined S → ((held : Files) (need : Need) → Head need held S → P need held) → status ≡ S → IfSome before.files (Due P words)
-  answer_due P S defined f e = by before.files d.answer
+module _ (held : Files) where
+  missing_holds : (P : List ℕ → Type 0) (o : Option Fetch) → IsSomeAnd o (IsMissing held) → MatchOption o (P []) (HoldsIn held P) → ⊥
+  missing_holds P None m h = m
+  missing_holds P (Some fetch) m h = by (get held fetch.name) m h
     where
-      of_reply : (held : Files) (o : Option Command) (reply : Reply) → reply.status ≡ S → MatchOption o (Says held Usage usage_line reply) (λ c. CommandAnswer c held reply)
-          → IsSomeAnd o (λ c. IsDue P (needs_of c) held)
-      of_reply held None reply is says = absurd (defined.no_usage (sym is ∙ ap (λ (r : Reply). r.status) says))
-      of_reply held (Some c) reply is h = due_of P held (needs_of c) S (f held) defined.no_done defined.no_read_fault (subst (Comes held (needs_of c)) is (comes c held reply h))
+      by : (o : Option (List ℕ)) → IsNone o → IsSomeAnd o (λ bytes. (length bytes ≤ fetch.limit) × P bytes) → ⊥
+      by None m h = h
+      by (Some bytes) m h = absurd cc
 
-      by : (o : Option Files) → Answers (Answer words) o after.files before.given after.given status → IfSome o (Due P words)
+  long_holds : (P : List ℕ → Type 0) (o : Option Fetch) → IsSomeAnd o (IsPastLimit held) → MatchOption o (P []) (HoldsIn held P) → ⊥
+  long_holds P None m h = m
+  long_holds P (Some fetch) m h = by (get held fetch.name) m h
+    where
+      by : (o : Option (List ℕ)) → IsSomeAnd o (λ bytes. fetch.limit < length bytes) → IsSomeAnd o (λ bytes. (length bytes ≤ fetch.limit) × P bytes) → ⊥
+      by None m h = m
+      by (Some bytes) m h = omega (arith, m, h.0)
+
+  missing_long : (o : Option Fetch) → IsSomeAnd o (IsMissing held) → IsSomeAnd o (IsPastLimit held) → ⊥
+  missing_long None m h = m
+  missing_long (Some fetch) m h = by (get held fetch.name) m h
+    where
+      by : (o : Option (List ℕ)) → IsNone o → IsSomeAnd o (λ bytes. fetch.limit < length bytes) → ⊥
+      by None m h = h
+      by (Some bytes) m h = absurd cc
+
+  both_hold : (P Q : List ℕ → Type 0) → ((bytes : List ℕ) → P bytes → Q bytes → ⊥) → (o : Option Fetch) → MatchOption o (P []) (HoldsIn held P) → MatchOption o (Q []) (HoldsIn held Q) → ⊥
+  both_hold P Q f None p q = f [] p q
+  both_hold P Q f (Some fetch) p q = by (get held fetch.name) p q
+    where
+      by : (o : Option (List ℕ)) → IsSomeAnd o (λ bytes. (length bytes ≤ fetch.limit) × P bytes) → IsSomeAnd o (λ bytes. (length bytes ≤ fetch.limit) × Q bytes) → ⊥
+      by None p q = p
+      by (Some bytes) p q = f bytes p.1 q.1
+
+  -- what fails isn't met
+  unmet : (demand : Demand) (status : Status) → FailsAs status demand held → IsMet demand held → ⊥
+  unmet demand status (missing e m) met = missing_holds (Admits demand held) (fetch_of demand) m met
+  unmet demand status (too_long e l) met = long_holds (Admits demand held) (fetch_of demand) l met
+  unmet demand status (refused e r) met = both_hold (λ bytes. Admits demand held bytes → ⊥) (Admits demand held) (λ bytes n a. n a) (fetch_of demand) r met
+
+  -- it fails in one way
+  one_status : (demand : Demand) (s t : Status) → FailsAs s demand held → FailsAs t demand held → s ≡ t
+  one_status demand s t (missing e m) (missing k n) = e ∙ sym k
+  one_status demand s t (missing e m) (too_long k n) = absurd (missing_long (fetch_of demand) m n)
+  one_status demand s t (missing e m) (refused k n) = absurd (missing_holds (λ bytes. Admits demand held bytes → ⊥) (fetch_of demand) m n)
+  one_status demand s t (too_long e m) (missing k n) = absurd (missing_long (fetch_of demand) n m)
+  one_status demand s t (too_long e m) (too_long k n) = e ∙ sym k
+  one_status demand s t (too_long e m) (refused k n) = absurd (long_holds (λ bytes. Admits demand held bytes → ⊥) (fetch_of demand) m n)
+  one_status demand s t (refused e m) (missing k n) = absurd (missing_holds (λ bytes. Admits demand held bytes → ⊥) (fetch_of demand) n m)
+  one_status demand s t (refused e m) (too_long k n) = absurd (long_holds (λ bytes. Admits demand held bytes → ⊥) (fetch_of demand) n m)
+  one_status demand s t (refused e m) (refused k n) = e ∙ sym k
+
+  some_both : (P : Fetch → Type 0) (S : Fetch → Type 0) (A : Type 0) → ((f : Fetch) → S f → A) → (o : Option Fetch) → IsSomeAnd o (λ f. P f × S f) → A × IsSomeAnd o P
+  some_both P S A g None h = absurd h
+  some_both P S A g (Some f) h = (g f h.1, h.0)
+
+  holds_less : (P Q : List ℕ → Type 0) → ((bytes : List ℕ) → P bytes → Q bytes) → (o : Option Fetch) → MatchOption o (P []) (HoldsIn held P) → MatchOption o (Q []) (HoldsIn held Q)
+  holds_less P Q f None h = f [] h
+  holds_less P Q f (Some fetch) h = by (get held fetch.name) h
+    where
+      by : (o : Option (List ℕ)) → IsSomeAnd o (λ bytes. (length bytes ≤ fetch.limit) × P bytes) → IsSomeAnd o (λ bytes. (length bytes ≤ fetch.limit) × Q bytes)
+      by None k = absurd k
+      by (Some bytes) k = (k.0, f bytes k.1)
+
+  -- a refusal of a demand is its failing
+  fails : (demand : Demand) (reply : Reply) → Refuses demand held reply → FailsAs reply.status demand held
+  fails demand reply (answers.missing h) =
+      let b = some_both (IsMissing held) (λ f. Says held Absent (absent_line f.name) reply) (reply.status ≡ Absent) (λ f says. ap (λ (r : Reply). r.status) says) (fetch_of demand) h in missing b.0 b.1
+  fails demand reply (answers.too_long h) =
+      let b = some_both (IsPastLimit held) (λ f. Says held TooLong (too_long_line f.name) reply) (reply.status ≡ TooLong) (λ f says. ap (λ (r : Reply). r.status) says) (fetch_of demand) h in too_long b.0 b.1
+  fails demand reply (answers.refused line h says) =
+      refused (ap (λ (r : Reply). r.status) says) (holds_less (λ bytes. (Admits demand held bytes → ⊥) × IsReason demand bytes line) (λ bytes. Admits demand held bytes → ⊥) (λ bytes k. k.0) (fetch_of demand) h)
+
+  read_status : (reply : Reply) (demand : Demand) → FailsToRead demand held reply → reply.status ≡ ReadFault
+  read_status reply demand h = by (fetch_of demand) h
+    where
+      by : (o : Option Fetch) → IsSomeAnd o (λ fetch. Says held ReadFault (read_fault_line fetch.name) reply) → reply.status ≡ ReadFault
+      by None k = absurd k
+      by (Some fetch) says = ap (λ (r : Reply). r.status) says
+
+-- ---- demands in their order
+
+module _ (held : Files) (done : Reply → Type 0) (ends : (reply : Reply) → done reply → reply.status ≡ Done) where
+  -- a status that refuses files is that of the first demand that isn't met
+  first_fails : (demands : List Demand) (reply : Reply) → Demanding demands done held reply → is_of_files reply.status ≡ true → FirstFailsAs reply.status demands held
+  first_fails [] reply h e = absurd (false≢true (sym (ap is_of_files (ends reply h)) ∙ e))
+  first_fails (demand ∷ demands) reply (inl h) e = absurd (false≢true (sym (ap is_of_files (read_status held reply demand h)) ∙ e))
+  first_fails (demand ∷ demands) reply (inr (inl h)) e = inl (fails held demand reply h)
+  first_fails (demand ∷ demands) reply (inr (inr h)) e = inr (h.0, first_fails demands reply h.1 e)
+
+  -- where no read fails, the first demand that isn't met decides
+  decided : (demands : List Demand) (reply : Reply) (status : Status) → Demanding demands done held reply → reply.status ≢ ReadFault → FirstFailsAs status demands held → reply.status ≡ status
+  decided [] reply status h n first = absurd first
+  decided (demand ∷ demands) reply status (inl h) n first = absurd (n (read_status held reply demand h))
+  decided (demand ∷ demands) reply status (inr (inl h)) n (inl first) = one_status held demand reply.status status (fails held demand reply h) first
+  decided (demand ∷ demands) reply status (inr (inl h)) n (inr first) = absurd (unmet held demand reply.status (fails held demand reply h) first.0)
+  decided (demand ∷ demands) reply status (inr (inr h)) n (inl first) = absurd (unmet held demand status first h.0)
+  decided (demand ∷ demands) reply status (inr (inr h)) n (inr first) = decided demands reply status h.1 n first.1
+
+  -- where all are met, the command is done
+  all_met : (demands : List Demand) (reply : Reply) → Demanding demands done held reply → reply.status ≢ ReadFault → AreMet demands held → reply.status ≡ Done
+  all_met [] reply h n met = ends reply h
+  all_met (demand ∷ demands) reply (inl h) n met = absurd (n (read_status held reply demand h))
+  all_met (demand ∷ demands) reply (inr (inl h)) n met = absurd (unmet held demand reply.status (fails held demand reply h) met.0)
+  all_met (demand ∷ demands) reply (inr (inr h)) n met = all_met demands reply h.1 n met.1
+
+done_ends : (command : Command) (held : Files) (reply : Reply) → IsDone command held reply → reply.status ≡ Done
+done_ends command held reply h = ap (λ (r : Reply). r.status) h.2
+
+-- ---- the answer to words
+
+module _ (words : List (List ℕ)) (told left : Option Files) (before after : Option (List ℕ)) (status : Status) (answer : Answers (Answer words) told left before after status) where
+  -- a status that refuses files is due
+  pub refused_due : is_of_files status ≡ true → IfSome told (Due status words)
+  refused_due e = by told answer
+    where
+      of_reply : (held : Files) (o : Option Command) (reply : Reply) → reply.status ≡ status → MatchOption o (Says held Usage usage_line reply) (λ c. CommandAnswer c held reply)
+          → IsSomeAnd o (λ c. FirstFailsAs status (demands_of c) held)
+      of_reply held None reply is says = absurd (false≢true (ap is_of_files (sym (ap (λ (r : Reply). r.status) says) ∙ is) ∙ e))
+      of_reply held (Some c) reply is h =
+          subst (λ (s : Status). FirstFailsAs s (demands_of c) held) is (first_fails held (IsDone c held) (done_ends c held) (demands_of c) reply h (ap is_of_files is ∙ e))
+
+      by : (o : Option Files) → Answers (Answer words) o left before after status → IfSome o (Due status words)
       by None h = tt
-      by (Some held) (inl (inl k)) = absurd (defined.no_write_fault (sym e ∙ k))
-      by (Some held) (inl (inr k)) = absurd (defined.no_want (sym e ∙ k))
-      by (Some held) (inr h) = of_reply held (command_of words) h.0 (sym h.2.answered ∙ e) h.1
+      by (Some held) (inl (inl k)) = absurd (false≢true (sym (ap is_of_files k) ∙ e))
+      by (Some held) (inl (inr k)) = absurd (false≢true (sym (ap is_of_files k) ∙ e))
+      by (Some held) (inr h) = of_reply held (command_of words) h.0 (sym h.2.answered) h.1
 
-  pub absent_due : status ≡ Absent → IfSome before.files (Due IsMissing words)
-  absent_due = answer_due IsMissing Absent
-      (record { no_usage = λ k. absurd cc; no_done = λ k. absurd cc; no_read_fault = λ k. absurd cc; no_write_fault = λ k. absurd cc; no_want = λ k. absurd cc }) head_absent
+  module _ (reads reads' faults faults' : ℕ) (read_fault : status ≡ ReadFault → Rose reads reads') (write_fault : status ≡ WriteFault → Rose faults faults') where
+    -- what is decided where no read fails is owed
+    owed_by : (Q : Command → Files → Type 0) (S : Status) → ((c : Command) (held : Files) (reply : Reply) → CommandAnswer c held reply → reply.status ≢ ReadFault → Q c held → reply.status ≡ S)
+        → IfSome told (λ held. IsSomeAnd (command_of words) (λ c. Q c held) → Owed S reads reads' faults faults' status)
+    owed_by Q S f = by told answer
+      where
+        of_reply : (held : Files) (o : Option Command) (reply : Reply) → reply.status ≢ ReadFault → IsSomeAnd o (λ c. Q c held)
+            → MatchOption o (Says held Usage usage_line reply) (λ c. CommandAnswer c held reply) → reply.status ≡ S
+        of_reply held None reply n q h = absurd q
+        of_reply held (Some c) reply n q h = f c held reply h n q
 
-  pub long_due : status ≡ TooLong → IfSome before.files (Due IsPastLimit words)
-  long_due = answer_due IsPastLimit TooLong
-      (record { no_usage = λ k. absurd cc; no_done = λ k. absurd cc; no_read_fault = λ k. absurd cc; no_write_fault = λ k. absurd cc; no_want = λ k. absurd cc }) head_long
+        by : (o : Option Files) → Answers (Answer words) o left before after status
+            → IfSome o (λ held. IsSomeAnd (command_of words) (λ c. Q c held) → Owed S reads reads' faults faults' status)
+        by None a = tt
+        by (Some held) (inl (inl k)) = λ q r w. absurd (w (write_fault k))
+        by (Some held) (inl (inr k)) = λ q r w. inr k
+        by (Some held) (inr h) = λ q r w. inl (h.2.answered ∙ of_reply held (command_of words) h.0 (λ e. r (read_fault (h.2.answered ∙ e))) q h.1)
 
-  pub program_due : status ≡ ProgramRefused → IfSome before.files (Due (IsRefused ProgramRefused) words)
-  program_due =
-      answer_due (IsRefused ProgramRefused) ProgramRefused
-      (record { no_usage = λ k. absurd cc; no_done = λ k. absurd cc; no_read_fault = λ k. absurd cc; no_write_fault = λ k. absurd cc; no_want = λ k. absurd cc })
-      (head_refused ProgramRefused (λ k. absurd cc) (λ k. absurd cc))
+    owed_at : (due : Status) → IfSome told (λ held. Due due words held → Owed due reads reads' faults faults' status)
+    owed_at due = owed_by (λ c held. FirstFailsAs due (demands_of c) held) due
+        (λ c held reply h n first. decided held (IsDone c held) (done_ends c held) (demands_of c) reply due h n first)
 
-  pub schedule_due : status ≡ ScheduleRefused → IfSome before.files (Due (IsRefused ScheduleRefused) words)
-  schedule_due =
-      answer_due (IsRefused ScheduleRefused) ScheduleRefused
-      (record { no_usage = λ k. absurd cc; no_done = λ k. absurd cc; no_read_fault = λ k. absurd cc; no_write_fault = λ k. absurd cc; no_want = λ k. absurd cc })
-      (head_refused ScheduleRefused (λ k. absurd cc) (λ k. absurd cc))
+    -- what is due is owed
+    pub owed : IfSome told (λ held. (due : Status) → Due due words held → Owed due reads reads' faults faults' status)
+    owed = by told owed_at
+      where
+        by : (o : Option Files) → ((due : Status) → IfSome o (λ held. Due due words held → Owed due reads reads' faults faults' status))
+            → IfSome o (λ held. (due : Status) → Due due words held → Owed due reads reads' faults faults' status)
+        by None f = tt
+        by (Some held) f = f
 
--- what is due is answered, where nothing failed
-module _ (words : List (List ℕ)) (before after : Outside) (status : Status) (d : Does words before after status) where
-  decided : (Q : Command → Files → Type 0) (S : Status) → ((c : Command) (held : Files) (reply : Reply) → reply.status ≢ ReadFault → Q c held → Comes held (needs_of c) reply.status → reply.status ≡ S)
-      → IfSome before.files (λ held. IsSomeAnd (command_of words) (λ c. Q c held) → Owed S before.read_faults after.read_faults before.faults after.faults status)
-  decided Q S f = by before.files d.answer
-    where
-      of_reply : (held : Files) (o : Option Command) (reply : Reply) → reply.status ≢ ReadFault → IsSomeAnd o (λ c. Q c held) → MatchOption o (Says held Usage usage_line reply) (λ c. CommandAnswer c held reply)
-          → reply.status ≡ S
-      of_reply held None reply n q h = absurd q
-      of_reply held (Some c) reply n q h = f c held reply n q (comes c held reply h)
-
-      by : (o : Option Files) → Answers (Answer words) o after.files before.given after.given status
-          → IfSome o (λ held. IsSomeAnd (command_of words) (λ c. Q c held) → Owed S before.read_faults after.read_faults before.faults after.faults status)
-      by None a = tt
-      by (Some held) (inl (inl k)) = λ q r w. absurd (w (d.write_fault k))
-      by (Some held) (inl (inr k)) = λ q r w. inr k
-      by (Some held) (inr h) = λ q r w. inl (h.2.answered ∙ of_reply held (command_of words) h.0 (λ e. r (d.read_fault (h.2.answered ∙ e))) q h.1)
-
-  pub lacking : IfSome before.files (λ held. Due IsMissing words held → Owed Absent before.read_faults after.read_faults before.faults after.faults status)
-  lacking = decided (λ c. IsDue IsMissing (needs_of c)) Absent (λ c held reply. settled IsMissing held Absent (missing_head held) (missing_unmet held) (needs_of c) reply.status)
-
-  pub past_limit : IfSome before.files (λ held. Due IsPastLimit words held → Owed TooLong before.read_faults after.read_faults before.faults after.faults status)
-  past_limit = decided (λ c. IsDue IsPastLimit (needs_of c)) TooLong (λ c held reply. settled IsPastLimit held TooLong (long_head held) (long_unmet held) (needs_of c) reply.status)
-
-  pub refused : (S : Status) → IfSome before.files (λ held. Due (IsRefused S) words held → Owed S before.read_faults after.read_faults before.faults after.faults status)
-  refused S = decided (λ c. IsDue (IsRefused S) (needs_of c)) S (λ c held reply. settled (IsRefused S) held S (refused_head S held) (refused_unmet S held) (needs_of c) reply.status)
-
-  pub ready : IfSome before.files (λ held. Ready words held → Owed Done before.read_faults after.read_faults before.faults after.faults status)
-  ready = decided (λ c. AreMet (needs_of c)) Done (λ c held reply. all_met held (needs_of c) reply.status)
+    pub complete : IfSome told (λ held. Ready words held → Owed Done reads reads' faults faults' status)
+    complete = owed_by (λ c held. AreMet (demands_of c) held) Done (λ c held reply h n met. all_met held (IsDone c held) (done_ends c held) (demands_of c) reply h n met)

@@ -19,7 +19,7 @@ use Rattle.c_tree.specs.declared.program.Program.{Program}
 use Rattle.c_checker.specs.declared.fault.CheckFault.{CheckFault}
 use Rattle.c_checker.specs.Found.{IsIn, Refuses}
 use Rattle.c_checker.specs.Units.{Parts, checks, parts_of}
-use Rattle.c_checker.specs.Law.{IsChecked}
+use Rattle.c_checker.specs.Laws.{IsChecked}
 use Rattle.nm_top.specs.Programs.{Cause, lexer_cause, parser_cause, checker_cause, HasTree, Reads, RefusedFor, by_lexeme, by_grammar, by_rule, OneProgram}
 
 -- ---- why a text is refused

@@ -2,10 +2,6 @@
 use Rattle.std.proofs.Common.{◌≡◌, ℕ, zero, suc, ◌+◌, List, [], ◌∷◌, ◌++◌, length, Option, Some, None, refl, sym, ap, ◌∙◌, subst, inl, inr, arith, length-append}
 use Rattle.std.specs.Prelude.{map, slice_get, option_map, ◌⊎◌}
 use Rattle.std.proofs.lemmas.Option.{slice_get-map, same_Some}
-use Rattle.nm_base.specs.declared.letter.ProcNo.{ProcNo}
-use Rattle.nm_base.specs.declared.letter.Letter.{Letter}
-use Rattle.nm_base.specs.Message.{Message}
-use Rattle.nm_base.specs.Scripts.{Script}
 use Rattle.c_tree.specs.declared.program.Program.{Program}
 use Rattle.c_tree.specs.Play.{script_of}
 use Rattle.stack_code.specs.Code.{Code}
@@ -17,8 +13,10 @@ use Rattle.world.specs.Worlds.{Parts, IsWorldOf}
 use Rattle.world.specs.Outcomes.{Begins}
 use Rattle.world.proofs.Places.{map_length, map_append}
 use Rattle.c_process.specs.Standing.{IsCodeOf}
+use Rattle.c_process.specs.contracts.script.CProcProc.TheImpl as process
+use Rattle.c_process.specs.declared.process.CProc.{CProc}
 use Rattle.report.specs.Runs.{RunsProgram}
-use Rattle.nm_top.specs.Begun.{IsBegun, AreBegun}
+use Rattle.nm_top.specs.private.Begun.{IsBegun, AreBegun}
 
 -- lists that a map takes to one list have at each place elements that it takes to one
 get_mapped : {X Y : Type 0} (f : X → Y) (xs ys : List X) (i : ℕ) (x : X) → map f xs ≡ map f ys → slice_get xs i ≡ Some x → (y : X) × (slice_get ys i ≡ Some y) × (f x ≡ f y)
@@ -39,37 +37,36 @@ last_or_before (z ∷ xs) y x (suc i) at = elim (last_or_before xs y x i at) [
   | inr k ↦ inr (ap suc k.0, k.1)
 ]
 
-module _ {P : Type 0} (stands_for : P → Script → List Message → ℕ → Type 0) (name_of : P → ProcNo) (origin_of : P → Code × ℕ) (code : Code) (n : ℕ) where
+module _ (code : Code) (n : ℕ) where
   -- one seat more
-  pub begun_more : (many : ℕ) (seats : List (Seat P)) (seat : Seat P) (x : P) → AreBegun stands_for name_of origin_of code n many seats → process_in seat ≡ x
-      → IsBegun stands_for name_of origin_of code n many x
-      → AreBegun stands_for name_of origin_of code n (many + 1) (seats ++ seat ∷ [])
+  pub begun_more : (many : ℕ) (seats : List (Seat CProc)) (seat : Seat CProc) (x : CProc) → AreBegun code n many seats → process_in seat ≡ x → IsBegun code n many x
+      → AreBegun code n (many + 1) (seats ++ seat ∷ [])
   begun_more many seats seat x a is b = record {
     count = omega (arith, a.count, length-append seats (seat ∷ []));
     each = λ me y at. elim (last_or_before (map process_in seats) (process_in seat) y me (ap (λ ps. slice_get ps me) (sym (map_append process_in seats (seat ∷ []))) ∙ at)) [
       | inl k ↦ a.each me y k
       | inr k ↦
           let here : many ≡ me = sym (k.0 ∙ map_length process_in seats ∙ a.count) in
-          subst (λ m. IsBegun stands_for name_of origin_of code n m y) here (subst (IsBegun stands_for name_of origin_of code n many) (sym is ∙ k.1) b)
+          subst (λ m. IsBegun code n m y) here (subst (IsBegun code n many) (sym is ∙ k.1) b)
     ];
   }
 
   -- the processes are at the beginning of the program's scripts
-  pub begins : (p : Program) (seats : List (Seat P)) → AreLawful (script_of p n) → IsCodeOf p code → AreBegun stands_for name_of origin_of code n n seats
-      → Begins stands_for (map process_in seats) (script_of p n)
+  pub begins : (p : Program) (seats : List (Seat CProc)) → AreLawful (script_of p n) → IsCodeOf p code → AreBegun code n n seats
+      → Begins process.stands_for-value.it (map process_in seats) (script_of p n)
   begins p seats lawful is_code a = record { lawful = lawful; stands = λ me x at. (a.each me x at).stands p is_code }
 
   -- what the world is after the turns
-  pub runs_program : {M : Type 0} (letters_of : M → List Letter) (w0 w : Parts P M) (p : Program) (E : List Event) (seats : List (Seat P)) → AreBegun stands_for name_of origin_of code n n seats
-      → w0.processes ≡ map process_in seats → map origin_of w.processes ≡ map origin_of w0.processes → length w.processes ≡ length w0.processes → IsCodeOf p code
-      → IsWorldOf stands_for name_of letters_of w (script_of p n) E → RunsProgram stands_for name_of origin_of letters_of w p E
-  runs_program letters_of w0 w p E seats a first same size is_code stands =
+  pub runs_program : {M : Type 0} (w0 w : Parts CProc M) (p : Program) (E : List Event) (seats : List (Seat CProc)) → AreBegun code n n seats
+      → w0.processes ≡ map process_in seats → map process.origin_of-value.it w.processes ≡ map process.origin_of-value.it w0.processes → length w.processes ≡ length w0.processes → IsCodeOf p code
+      → IsWorldOf process.stands_for-value.it w (script_of p n) E → RunsProgram w p E
+  runs_program w0 w p E seats a first same size is_code stands =
       let many : length w.processes ≡ n = size ∙ ap length first ∙ map_length process_in seats ∙ a.count in
       record {
-        stands = subst (λ k. IsWorldOf stands_for name_of letters_of w (script_of p k) E) (sym many) stands;
+        stands = subst (λ k. IsWorldOf process.stands_for-value.it w (script_of p k) E) (sym many) stands;
         code = code;
         compiled = is_code;
         runs = λ me x at.
-            let y = get_mapped origin_of w.processes w0.processes me x same at in
+            let y = get_mapped process.origin_of-value.it w.processes w0.processes me x same at in
             y.2 ∙ (a.each me y.0 (ap (λ ps. slice_get ps me) (sym first) ∙ y.1)).origin ∙ ap (λ (k : ℕ). (code, k)) (sym many);
       }

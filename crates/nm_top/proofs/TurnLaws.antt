@@ -9,23 +9,21 @@ use Rattle.schedules.specs.declared.schedule.Turn.{Turn}
 use Rattle.event_list.specs.declared.Event.{Event}
 use Rattle.event_list.specs.Turns as turns
 use Rattle.event_list.specs.Turns.{Turned, Stays, Went, go, after, run_of}
-use Rattle.event_list.specs.Rules.{rule_of}
+use Rattle.event_list.specs.Rules.{rule_of, go_under}
 use Rattle.event_list.proofs.RuleFacts.{turn_rule}
-use Rattle.nm_base.specs.declared.letter.ProcNo.{ProcNo}
-use Rattle.nm_base.specs.declared.letter.Letter.{Letter}
-use Rattle.nm_base.specs.Message.{Message}
+use Rattle.processes.specs.Standing.{Standing}
 use Rattle.world.specs.declared.world.Turned as outcomes
 use Rattle.world.specs.Worlds.{Parts, IsWorldOf}
-use Rattle.world.specs.Outcomes.{HasTurned}
-use Rattle.nm_top.specs.Turns.{seen_turn}
+use Rattle.world.specs.Outcomes.{HasTurned, outcome}
+use Rattle.nm_top.specs.Schedules.{seen_turn}
 
 after_length : (E : List Event) (t : Turned) → length (after E t) ≤ length E + 1
 after_length E (Stays why) = omega arith
 after_length E (Went e) = omega (arith, length-append E (e ∷ []))
 
-from_length : (s : ℕ → Script) (E : List Event) (ts : List turns.Turn) → length (fold (λ E t. after E (go s 0 None E t)) E ts) ≤ length E + length ts
-from_length s E [] = omega arith
-from_length s E (t ∷ ts) = omega (arith, from_length s (after E (go s 0 None E t)) ts, after_length E (go s 0 None E t))
+from_length : (s : ℕ → Script) (M : ℕ) (E : List Event) (ts : List turns.Turn) → length (fold (λ E t. after E (go s M None E t)) E ts) ≤ length E + length ts
+from_length s M E [] = omega arith
+from_length s M E (t ∷ ts) = omega (arith, from_length s M (after E (go s M None E t)) ts, after_length E (go s M None E t))
 
 map_length : {X Y : Type 0} (f : X → Y) (xs : List X) → length (map f xs) ≡ length xs
 map_length f [] = refl
@@ -41,41 +39,43 @@ take_length (suc i) [] = omega arith
 take_length (suc i) (x ∷ xs) = omega (arith, take_length i xs)
 
 -- a run has at most one event a turn
-pub run_length : (s : ℕ → Script) (ts : List Turn) (i : ℕ) → length (run_of s 0 (map seen_turn (take i ts))) ≤ i
-run_length s ts i = omega (arith, from_length s [] (map seen_turn (take i ts)), map_length seen_turn (take i ts), take_length i ts)
+pub run_length : (s : ℕ → Script) (M : ℕ) (ts : List Turn) (i : ℕ) → length (run_of s M (map seen_turn (take i ts))) ≤ i
+run_length s M ts i = omega (arith, from_length s M [] (map seen_turn (take i ts)), map_length seen_turn (take i ts), take_length i ts)
 
 -- one turn more
-pub run_more : (s : ℕ → Script) (ts : List Turn) (i : ℕ) (t : Turn) → slice_get ts i ≡ Some t
-    → run_of s 0 (map seen_turn (take (i + 1) ts)) ≡ after (run_of s 0 (map seen_turn (take i ts))) (go s 0 None (run_of s 0 (map seen_turn (take i ts))) (seen_turn t))
-run_more s ts i t at =
+pub run_more : (s : ℕ → Script) (M : ℕ) (ts : List Turn) (i : ℕ) (t : Turn) → slice_get ts i ≡ Some t
+    → run_of s M (map seen_turn (take (i + 1) ts)) ≡ after (run_of s M (map seen_turn (take i ts))) (go s M None (run_of s M (map seen_turn (take i ts))) (seen_turn t))
+run_more s M ts i t at =
     let one : take (i + 1) ts ≡ take i ts ++ t ∷ [] =
     ap (λ k. take k ts) (add-one i) ∙ take-suc ts i t (slice_get_within ts i t at) ∙ ap (λ u. take i ts ++ u ∷ []) (get_or_from_slice_get ts i t t at) in
-    ap (λ us. run_of s 0 (map seen_turn us)) one ∙ ap (run_of s 0) (map_append seen_turn (take i ts) (t ∷ []))
-    ∙ fold_push (λ E u. after E (go s 0 None E u)) [] (map seen_turn (take i ts)) (seen_turn t)
+    ap (λ us. run_of s M (map seen_turn us)) one ∙ ap (run_of s M) (map_append seen_turn (take i ts) (t ∷ []))
+    ∙ fold_push (λ E u. after E (go s M None E u)) [] (map seen_turn (take i ts)) (seen_turn t)
 
 -- What a world keeps while the turns of a schedule are made: it stands for the run of the first i turns.
-pub record AfterTurns {P M O : Type 0} (stands_for : P → Script → List Message → ℕ → Type 0) (name_of : P → ProcNo) (letters_of : M → List Letter) (origin_of : P
-    → O) (start now : Parts P M) (ts : List Turn) (i : ℕ) : Type 0 where
-  pub run : (s : ℕ → Script) → IsWorldOf stands_for name_of letters_of start s [] → IsWorldOf stands_for name_of letters_of now s (run_of s 0 (map seen_turn (take i ts)))
+pub record AfterTurns {P M O : Type 0} (stands_for : P → Standing) (origin_of : P → O) (start now : Parts P M) (ts : List Turn) (i : ℕ) : Type 0 where
+  pub run : (s : ℕ → Script) → IsWorldOf stands_for start s [] → IsWorldOf stands_for now s (run_of s start.mask (map seen_turn (take i ts)))
+  pub mask : now.mask ≡ start.mask
   pub size : length now.processes ≡ length start.processes
   pub origins : map origin_of now.processes ≡ map origin_of start.processes
 
-module _ {P M O : Type 0} (stands_for : P → Script → List Message → ℕ → Type 0) (name_of : P → ProcNo) (letters_of : M → List Letter) (origin_of : P → O) (start : Parts P M) (ts : List Turn) where
+module _ {P M O : Type 0} (stands_for : P → Standing) (origin_of : P → O) (start : Parts P M) (ts : List Turn) where
   -- fewer events happened than turns were made
-  pub few_events : (now : Parts P M) (i : ℕ) → (s : ℕ → Script) × IsWorldOf stands_for name_of letters_of start s [] → AfterTurns stands_for name_of letters_of origin_of start now ts i
-      → now.events ≤ i
-  few_events now i b a = omega (arith, (a.run b.0 b.1).events, run_length b.0 ts i)
+  pub few_events : (now : Parts P M) (i : ℕ) → (s : ℕ → Script) × IsWorldOf stands_for start s [] → AfterTurns stands_for origin_of start now ts i → now.events ≤ i
+  few_events now i b a = omega (arith, (a.run b.0 b.1).events, run_length b.0 start.mask ts i)
 
   -- one turn more
-  pub next_turn : (now new : Parts P M) (i : ℕ) (t : Turn) (what : outcomes.Turned) → AfterTurns stands_for name_of letters_of origin_of start now ts i → slice_get ts i ≡ Some t
-      → ((s : ℕ → Script) (E : List Event) → IsWorldOf stands_for name_of letters_of now s E → HasTurned stands_for name_of letters_of (rule_of None) new s E (seen_turn t) what)
-      → length new.processes ≡ length now.processes → map origin_of new.processes ≡ map origin_of now.processes
-      → AfterTurns stands_for name_of letters_of origin_of start new ts (i + 1)
-  next_turn now new i t what a at turned size origins = record {
+  pub next_turn : (now new : Parts P M) (i : ℕ) (t : Turn) (what : outcomes.Turned) → AfterTurns stands_for origin_of start now ts i → slice_get ts i ≡ Some t
+      → ((s : ℕ → Script) (E : List Event) → IsWorldOf stands_for now s E → HasTurned stands_for now.mask (rule_of None) new s E (seen_turn t) what)
+      → new.mask ≡ now.mask → length new.processes ≡ length now.processes → map origin_of new.processes ≡ map origin_of now.processes
+      → AfterTurns stands_for origin_of start new ts (i + 1)
+  next_turn now new i t what a at turned mask size origins = record {
     run = λ s h.
-        let E = run_of s 0 (map seen_turn (take i ts)) in
+        let E = run_of s start.mask (map seen_turn (take i ts)) in
         let k = turned s E (a.run s h) in
-        subst (λ F. IsWorldOf stands_for name_of letters_of new s F) (sym (run_more s ts i t at ∙ ap (after E) (turn_rule s 0 None E (seen_turn t) ∙ k.is))) k.stands;
+        let went : go s start.mask None E (seen_turn t) ≡ outcome what =
+        turn_rule s start.mask None E (seen_turn t) ∙ subst (λ m. go_under s m (rule_of None) E (seen_turn t) ≡ outcome what) a.mask k.is in
+        subst (λ F. IsWorldOf stands_for new s F) (sym (run_more s start.mask ts i t at ∙ ap (after E) went)) k.stands;
+    mask = mask ∙ a.mask;
     size = size ∙ a.size;
     origins = origins ∙ a.origins;
   }

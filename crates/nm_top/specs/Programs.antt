@@ -15,10 +15,6 @@ use Rattle.c_checker.specs.declared.fault.CheckFault.{CheckFault}
 use Rattle.c_checker.specs.declared.fault.CheckFault.TheVariants as check
 use Rattle.c_checker.specs.Units.{Checked, Breaks}
 
--- how many bytes the text of a program may have
-abbrev pub program_limit : ℕ
-program_limit = 262144
-
 -- the text is spelled as tokens that derive this tree, in which no item is higher than 64
 pub record HasTree (text : List ℕ) (tree : Tree) : Type 0 where
   pub tokens : List Token
@@ -78,7 +74,8 @@ checker_cause (check.DoubleDefault line) = caused (codes "DoubleDefault") line
 checker_cause (check.TooMany line) = caused (codes "TooMany") line
 checker_cause check.Memory = None
 
--- Where tokens derive no tree without an item higher than 64: the line is that of some token; or at least 64 of them nest, and it is the line of one of these.
+-- Where tokens derive no tree without an item higher than 64: the line is that of some token; or at least 64 of them
+-- nest, and it is the line of one of these.
 abbrev pub MayBlame : List Token → ParseFault → Type 0
 MayBlame tokens (parse.Syntax line) = IsLine tokens line
 MayBlame tokens (parse.Deep line) = (64 ≤ nesting tokens) × IsNestingLine tokens line
@@ -88,8 +85,10 @@ MayBlame tokens parse.Memory = ⊥
 -- tree without an item higher than 64; or it has a tree, which breaks this rule.
 pub data RefusedFor (text : List ℕ) (why : Cause) : Type 0 where
   by_lexeme : (fault : LexFault) → Refused text fault → lexer_cause fault ≡ Some why → RefusedFor text why
-  by_grammar : (tokens : List Token) (fault : ParseFault) → Spells text tokens → IsNoUnit tokens → MayBlame tokens fault → parser_cause fault ≡ Some why → RefusedFor text why
-  by_rule : (tree : Tree) (fault : CheckFault) → HasTree text tree → Breaks tree fault → checker_cause fault ≡ Some why → RefusedFor text why
+  by_grammar : (tokens : List Token) (fault : ParseFault) → Spells text tokens → IsNoUnit tokens → MayBlame tokens fault
+      → parser_cause fault ≡ Some why → RefusedFor text why
+  by_rule : (tree : Tree) (fault : CheckFault) → HasTree text tree → Breaks tree fault → checker_cause fault ≡ Some why
+      → RefusedFor text why
 
 -- a text has at most one program, and none where it is refused
 pub record OneProgram (text : List ℕ) : Type 0 where

@@ -1,31 +1,24 @@
-//! The files that a command needs, and what their texts stand for.
+//! The files that a command demands, and what their texts stand for.
 
-ghost use Rattle.std.specs.Prelude.{◌≡◌, ◌<◌, ◌≤◌, ◌⊎◌, List, ℕ, length, Err, IfSome, IfOk};
-ghost use Rattle.std.specs.FinMap.{get};
-ghost use Rattle.std.specs.Option.{IsSomeAnd};
+ghost use Rattle.std.specs.Prelude.{◌≡◌, ◌<◌, ◌≤◌, ◌⊎◌, List, ℕ, [], ◌∷◌, length, Err, IfSome, IfOk, IfErr};
 ghost use Rattle.nm_outside.specs.Files.{Files};
+ghost use Rattle.schedules.specs.Bounds.{AreFewTurns};
 ghost use Rattle.schedules.specs.Texts.{text_turns};
 ghost use Rattle.schedules.specs.declared.reader.ScheduleFault.TheVariants as faults;
 ghost use Rattle.nm_top.specs.Programs.{Reads};
 ghost use Rattle.nm_top.specs.Schedules.{IsFirstBad, IsSchedule};
-ghost use Rattle.nm_top.specs.Unread.{IsUnread};
-ghost use Rattle.schedules.specs.Bounds.{AreFewTurns};
-ghost use Rattle.nm_top.specs.Needs.{Holds, ProgramText, ScheduleText};
-ghost use Rattle.nm_top.specs.Replies.{Fetching};
-ghost use Rattle.nm_top.specs.RunAnswers.{RefusesProgram, RefusesSchedule, ReadingProgram, ReadingSchedule};
-ghost use Rattle.nm_top.specs.Stops.{Counts, Gives, IsOfText, Nothing, Stops};
+ghost use Rattle.nm_top.specs.Demands.{Holds, HoldsIn, ProgramText, ScheduleText};
+ghost use Rattle.nm_top.specs.private.Unread.{IsUnread};
+ghost use Rattle.nm_top.specs.private.Works.{Counts, Gives, IsOfText, IsUnfetched, IsUnmet};
 
 use crate::program::{Unread, program_of};
 use crate::stop::Stop;
 use c_tree::Program;
+use nm_base::{MAX_PROGRAM_BYTES, MAX_SCHEDULE_BYTES};
 use nm_outside::{Cabinet, Fetched};
 use report::Refusal;
 use schedules::{Schedule, ScheduleFault, read_schedule};
 use std::alloc::Global;
-
-const PROGRAM_LIMIT: u32 = 262_144;
-
-const SCHEDULE_LIMIT: u32 = 4_194_304;
 
 // The bytes of a file of at most so many.
 fn fetched<'a, C: Cabinet>(
@@ -34,9 +27,14 @@ fn fetched<'a, C: Cabinet>(
     name: &'a str,
     limit: u32,
 ) -> Result<Vec<u8>, Stop<'a>>
-    ensures gives { IfSome (C.files files.old) (λ held. Gives (λ v. IsSomeAnd (get held name.now) (λ bytes. v.items ≡ bytes)) (Fetching held name.now limit Nothing) held result) }
+    ensures found { IfSome (C.files files.old)
+        (λ held. IfOk result
+        (λ v. HoldsIn held (λ bytes. v.items ≡ bytes) (record { name = name.now; limit = limit }))) }
+    ensures unfetched { IfSome (C.files files.old)
+        (λ held. IfErr result (IsUnfetched held (record { name = name.now; limit = limit }))) }
     ensures limit { IfOk result (λ v. length v.items ≤ limit) }
-    ensures counts { Counts (λ n. n ≡ name.now) (C.absents files.old) (C.absents files.new) (C.read_faults files.old) (C.read_faults files.new) result }
+    ensures counts { Counts (λ n. n ≡ name.now) (C.absents files.old) (C.absents files.new) (C.read_faults files.old)
+        (C.read_faults files.new) result }
     ensures files { C.files files.new ≡ C.files files.old }
 {
     match files.fetch(alloc, name, limit) {
@@ -54,7 +52,7 @@ fn fetched<'a, C: Cabinet>(
 
 // What stops a command whose program wasn't read.
 fn unread<'a>(fault: Unread) -> Stop<'a>
-    ensures stops { (held : Files) (text : List ℕ) → IsUnread text fault → Stops (RefusesProgram held text) held result }
+    ensures unmet { (name text : List ℕ) → IsUnread text fault → IsUnmet (ProgramText name) text result }
     ensures text { IsOfText result }
 {
     match fault {
@@ -65,7 +63,8 @@ fn unread<'a>(fault: Unread) -> Stop<'a>
 
 // What stops a command whose schedule has a bad word: the kind and the place of the first.
 fn bad_word<'a>(kind: &'static str, place: u32) -> Stop<'a>
-    ensures stops { (held : Files) (n : ℕ) (text : List ℕ) → IsFirstBad n text (record { kind = kind.now; place = place }) → Stops (RefusesSchedule held n text) held result }
+    ensures unmet { (name : List ℕ) (n : ℕ) (text : List ℕ)
+        → IsFirstBad n text (record { kind = kind.now; place = place }) → IsUnmet (ScheduleText name n) text result }
     ensures text { IsOfText result }
 {
     Stop::Refused(Refusal::ScheduleRefused { kind, place })
@@ -73,7 +72,8 @@ fn bad_word<'a>(kind: &'static str, place: u32) -> Stop<'a>
 
 // What stops a command whose schedule wasn't read.
 fn unscheduled<'a>(fault: ScheduleFault) -> Stop<'a>
-    ensures stops { (held : Files) (n : ℕ) (text : List ℕ) → (fault ≡ faults.Memory) ⊎ (text_turns n text ≡ Err fault) → Stops (RefusesSchedule held n text) held result }
+    ensures unmet { (name : List ℕ) (n : ℕ) (text : List ℕ) → (fault ≡ faults.Memory) ⊎ (text_turns n text ≡ Err fault)
+        → IsUnmet (ScheduleText name n) text result }
     ensures text { IsOfText result }
 {
     match fault {
@@ -90,11 +90,14 @@ pub fn program_in<'a, C: Cabinet>(
     files: &mut C,
     name: &'a str,
 ) -> Result<Program, Stop<'a>>
-    ensures gives { IfSome (C.files files.old) (λ held. Gives (λ program. Holds (ProgramText name.now) (λ text. Reads text program) held) (ReadingProgram held name.now Nothing) held result) }
-    ensures counts { Counts (λ n. n ≡ name.now) (C.absents files.old) (C.absents files.new) (C.read_faults files.old) (C.read_faults files.new) result }
+    ensures gives { IfSome (C.files files.old) (λ held.
+        Gives (λ program. Holds (ProgramText name.now) (λ text. Reads text program) held)
+        (ProgramText name.now ∷ []) held result) }
+    ensures counts { Counts (λ n. n ≡ name.now) (C.absents files.old) (C.absents files.new) (C.read_faults files.old)
+        (C.read_faults files.new) result }
     ensures files { C.files files.new ≡ C.files files.old }
 {
-    let text = match fetched(alloc, files, name, PROGRAM_LIMIT) {
+    let text = match fetched(alloc, files, name, MAX_PROGRAM_BYTES) {
         Ok(text) => text,
         Err(stop) => return Err(stop),
     };
@@ -113,13 +116,15 @@ pub fn schedule_in<'a, C: Cabinet>(
 ) -> Result<Schedule, Stop<'a>>
     requires some { 0 < processes }
     requires few { processes ≤ 32 }
-    ensures gives { IfSome (C.files files.old) (λ held. Gives (λ turns. Holds (ScheduleText name.now processes) (λ text. IsSchedule processes text turns) held)
-        (ReadingSchedule held name.now processes Nothing) held result) }
+    ensures gives { IfSome (C.files files.old) (λ held.
+        Gives (λ turns. Holds (ScheduleText name.now processes) (λ text. IsSchedule processes text turns) held)
+        (ScheduleText name.now processes ∷ []) held result) }
     ensures turns { IfOk result (AreFewTurns processes) }
-    ensures counts { Counts (λ n. n ≡ name.now) (C.absents files.old) (C.absents files.new) (C.read_faults files.old) (C.read_faults files.new) result }
+    ensures counts { Counts (λ n. n ≡ name.now) (C.absents files.old) (C.absents files.new) (C.read_faults files.old)
+        (C.read_faults files.new) result }
     ensures files { C.files files.new ≡ C.files files.old }
 {
-    let text = match fetched(alloc, files, name, SCHEDULE_LIMIT) {
+    let text = match fetched(alloc, files, name, MAX_SCHEDULE_BYTES) {
         Ok(text) => text,
         Err(stop) => return Err(stop),
     };

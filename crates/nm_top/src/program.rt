@@ -1,13 +1,14 @@
 //! Programs from texts.
 
 ghost use Rattle.std.specs.Prelude.{◌≡◌, ◌≤◌, ℕ, List, length, IfOk, IfErr};
-ghost use Rattle.nm_top.specs.Programs.{HasTree, Reads, OneProgram, caused, lexer_cause, parser_cause, checker_cause};
-ghost use Rattle.nm_top.specs.Unread.{cause_of, IsUnread};
+ghost use Rattle.nm_top.specs.Programs.{HasTree, Reads, caused, lexer_cause, parser_cause, checker_cause};
+ghost use Rattle.nm_top.specs.private.Unread.{cause_of, IsUnread};
 
 use c_checker::{CheckFault, check};
 use c_lexer::{LexFault, lex};
 use c_parser::{ParseFault, parse};
 use c_tree::{Program, Tree};
+use nm_base::MAX_PROGRAM_BYTES;
 use std::alloc::Global;
 
 /// Why no program was read: a broken rule, by its name, and the line where it is broken; or want of memory.
@@ -77,7 +78,7 @@ fn broken_rule(fault: CheckFault) -> Unread
 
 // The tree of a text.
 fn tree_of(alloc: Global, text: &[u8]) -> Result<Tree, Unread>
-    requires { length text.now ≤ 262144 }
+    requires { length text.now ≤ MAX_PROGRAM_BYTES }
     ensures tree { IfOk result (HasTree text.now) }
     ensures refused { IfErr result (IsUnread text.now) }
 {
@@ -93,7 +94,7 @@ fn tree_of(alloc: Global, text: &[u8]) -> Result<Tree, Unread>
 
 /// The program of a text of at most 262,144 bytes. A text that is refused has none.
 pub fn program_of(alloc: Global, text: &[u8]) -> Result<Program, Unread>
-    requires { length text.now ≤ 262144 }
+    requires { length text.now ≤ MAX_PROGRAM_BYTES }
     ensures program { IfOk result (Reads text.now) }
     ensures refused { IfErr result (IsUnread text.now) }
 {
@@ -106,8 +107,3 @@ pub fn program_of(alloc: Global, text: &[u8]) -> Result<Program, Unread>
         Err(fault) => Err(broken_rule(fault)),
     }
 }
-
-/// A text has at most one program, and none where it is refused.
-pub fn one_program()
-    ensures { (text : List ℕ) → OneProgram text }
-{}

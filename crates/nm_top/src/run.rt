@@ -2,16 +2,16 @@
 
 ghost use Rattle.std.specs.Prelude.{◌≡◌, ◌<◌, ◌≤◌, ◌⊎◌, IfSome, IfOk};
 ghost use Rattle.c_tree.specs.declared.program.Program.{Program};
-ghost use Rattle.stack_code.specs.View.{code_of};
+ghost use Rattle.stack_code.specs.View.{seen_code};
 ghost use Rattle.c_process.specs.Standing.{IsCodeOf};
+ghost use Rattle.schedules.specs.Bounds.{AreFewTurns};
 ghost use Rattle.report.specs.Runs.{blocks};
 ghost use Rattle.nm_top.specs.Commands.{Run};
 ghost use Rattle.nm_top.specs.Programs.{Reads};
 ghost use Rattle.nm_top.specs.Schedules.{IsSchedule};
-ghost use Rattle.schedules.specs.Bounds.{AreFewTurns};
-ghost use Rattle.nm_top.specs.Needs.{Holds, ProgramText, ScheduleText};
-ghost use Rattle.nm_top.specs.RunAnswers.{RunAnswer, run_of_program};
-ghost use Rattle.nm_top.specs.Stops.{Carries, Counts, Gives, Tries, outside};
+ghost use Rattle.nm_top.specs.Demands.{Holds, IsFetched, ProgramText, ScheduleText};
+ghost use Rattle.nm_top.specs.Runs.{run_demands, run_of_program};
+ghost use Rattle.nm_top.specs.private.Works.{Carries, Counts, Gives, Tries, outside};
 
 use crate::fetch::{program_in, schedule_in};
 use crate::start::{compiled, world_after};
@@ -31,16 +31,18 @@ fn run_code<O: Sink>(
     code: &Code,
     processes: u8,
     schedule: &Schedule,
+    mask: u32,
     out: &mut O,
 ) -> Status
     requires some { 0 < processes }
     requires few { processes ≤ 32 }
     requires turns { AreFewTurns processes schedule.now }
-    requires code { (p : Program) × IsCodeOf p (code_of code.now) }
-    ensures { (p : Program) → IsCodeOf p (code_of code.now)
-        → Tries (blocks p processes (run_of_program p processes schedule.now)) (O.given out.old) (O.given out.new) (O.faults out.old) (O.faults out.new) result }
+    requires code { (p : Program) × IsCodeOf p (seen_code code.now) }
+    ensures { (p : Program) → IsCodeOf p (seen_code code.now)
+        → Tries (blocks p processes (run_of_program p processes mask schedule.now)) (O.given out.old) (O.given out.new)
+        (O.faults out.old) (O.faults out.new) result }
 {
-    let Ok(world) = world_after(alloc, code, processes, schedule) else {
+    let Ok(world) = world_after(alloc, code, processes, schedule, mask) else {
         return Status::WantOfMemory;
     };
     match blocks(out, &world) {
@@ -55,21 +57,23 @@ fn run_program<O: Sink>(
     program: &Program,
     processes: u8,
     schedule: &Schedule,
+    mask: u32,
     out: &mut O,
 ) -> Status
     requires some { 0 < processes }
     requires few { processes ≤ 32 }
     requires turns { AreFewTurns processes schedule.now }
-    ensures { Tries (blocks program.now processes (run_of_program program.now processes schedule.now)) (O.given out.old) (O.given out.new) (O.faults out.old) (O.faults out.new) result }
+    ensures { Tries (blocks program.now processes (run_of_program program.now processes mask schedule.now))
+        (O.given out.old) (O.given out.new) (O.faults out.old) (O.faults out.new) result }
 {
     let Ok(code) = compiled(alloc, program) else {
         return Status::WantOfMemory;
     };
-    run_code(alloc, &code, processes, schedule, out)
+    run_code(alloc, &code, processes, schedule, mask, out)
 }
 
-// What a run needs: a program, and a schedule for so many processes.
-fn needed<'a, C: Cabinet>(
+// What a run demands: a program, and a schedule for so many processes.
+fn demanded<'a, C: Cabinet>(
     alloc: Global,
     program: &'a str,
     processes: u8,
@@ -79,10 +83,12 @@ fn needed<'a, C: Cabinet>(
     requires some { 0 < processes }
     requires few { processes ≤ 32 }
     ensures gives { IfSome (C.files files.old) (λ held. Gives
-        (λ x. Holds (ProgramText program.now) (λ text. Reads text x.0) held × Holds (ScheduleText schedule.now processes) (λ text. IsSchedule processes text x.1) held)
-        (RunAnswer program.now processes schedule.now held) held result) }
+        (λ x. Holds (ProgramText program.now) (λ text. Reads text x.0) held
+        × Holds (ScheduleText schedule.now processes) (λ text. IsSchedule processes text x.1) held)
+        (run_demands program.now processes schedule.now) held result) }
     ensures turns { IfOk result (λ x. AreFewTurns processes x.1) }
-    ensures counts { Counts (λ n. (n ≡ program.now) ⊎ (n ≡ schedule.now)) (C.absents files.old) (C.absents files.new) (C.read_faults files.old) (C.read_faults files.new) result }
+    ensures counts { Counts (IsFetched (run_demands program.now processes schedule.now)) (C.absents files.old)
+        (C.absents files.new) (C.read_faults files.old) (C.read_faults files.new) result }
     ensures files { C.files files.new ≡ C.files files.old }
 {
     let program = match program_in(alloc, files, program) {
@@ -95,24 +101,27 @@ fn needed<'a, C: Cabinet>(
     }
 }
 
-/// Runs the program in a file as so many processes, under the schedule in another, and prints the
-/// processes' blocks and the summary.
+/// Runs the program in a file as so many processes, under the schedule in another, with the channels of
+/// the mask ordered, and prints the processes' blocks and the summary.
 pub fn run<C: Cabinet, O: Sink>(
     alloc: Global,
     program: &str,
     processes: u8,
     schedule: &str,
+    mask: u32,
     files: &mut C,
     out: &mut O,
 ) -> Status
     requires some { 0 < processes }
     requires few { processes ≤ 32 }
-    ensures { Carries (Run program.now processes schedule.now)
-        (outside (C.files files.old) (C.absents files.old) (C.read_faults files.old) (O.given out.old) (O.faults out.old))
-        (outside (C.files files.new) (C.absents files.new) (C.read_faults files.new) (O.given out.new) (O.faults out.new)) result }
+    ensures { Carries (Run program.now processes schedule.now mask)
+        (outside (C.files files.old) (C.absents files.old) (C.read_faults files.old) (O.given out.old)
+        (O.faults out.old))
+        (outside (C.files files.new) (C.absents files.new) (C.read_faults files.new) (O.given out.new)
+        (O.faults out.new)) result }
 {
-    match needed(alloc, program, processes, schedule, files) {
-        Ok((program, schedule)) => run_program(alloc, &program, processes, &schedule, out),
+    match demanded(alloc, program, processes, schedule, files) {
+        Ok((program, schedule)) => run_program(alloc, &program, processes, &schedule, mask, out),
         Err(stop) => tell(out, &stop),
     }
 }

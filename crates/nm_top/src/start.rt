@@ -2,18 +2,18 @@
 
 ghost use Rattle.std.specs.Prelude.{◌≡◌, ◌<◌, ◌≤◌, length, IfOk};
 ghost use Rattle.c_tree.specs.declared.program.Program.{Program};
-ghost use Rattle.stack_code.specs.View.{code_of};
+ghost use Rattle.stack_code.specs.View.{seen_code};
 ghost use Rattle.c_process.specs.Standing.{IsCodeOf};
 ghost use Rattle.report.specs.Runs.{RunsProgram};
 ghost use Rattle.schedules.specs.Bounds.{AreFewTurns};
-ghost use Rattle.nm_top.specs.RunAnswers.{run_of_program};
-ghost use Rattle.nm_top.specs.Begun.{AreBegun};
+ghost use Rattle.nm_top.specs.Runs.{run_of_program};
+ghost use Rattle.nm_top.specs.private.Begun.{AreBegun};
 
 use crate::turns::make_turns;
 use c_compile::compile;
 use c_process::CProc;
 use c_tree::Program;
-use mailboxes::{ListMail, Mail};
+use mailboxes::{Mail, OrderedMail};
 use nm_base::{ProcNo, WantOfMemory};
 use processes::{Proc, Seat};
 use schedules::Schedule;
@@ -23,7 +23,7 @@ use world::World;
 
 /// The code of a program.
 pub fn compiled(alloc: Global, program: &Program) -> Result<Code, WantOfMemory>
-    ensures { IfOk result (λ code. IsCodeOf program.now (code_of code)) }
+    ensures { IfOk result (λ code. IsCodeOf program.now (seen_code code)) }
 {
     let code = compile(alloc, program)?;
     Ok(code)
@@ -32,7 +32,7 @@ pub fn compiled(alloc: Global, program: &Program) -> Result<Code, WantOfMemory>
 // The processes of a program, each before its first event.
 fn seats_of<'c>(alloc: Global, code: &'c Code, n: u8) -> Result<Vec<Seat<CProc<'c>>>, WantOfMemory>
     requires { n ≤ 32 }
-    ensures { IfOk result (λ seats. AreBegun ⟦<CProc<'c> as Proc>⟧.stands_for ⟦<CProc<'c> as Proc>⟧.name_of ⟦<CProc<'c> as Proc>⟧.origin_of (code_of code.now) n n seats.items) }
+    ensures { IfOk result (λ seats. AreBegun (seen_code code.now) n n seats.items) }
 {
     let mut seats = Vec::new(alloc);
     for me in 0..n {
@@ -45,23 +45,25 @@ fn seats_of<'c>(alloc: Global, code: &'c Code, n: u8) -> Result<Vec<Seat<CProc<'
     Ok(seats)
 }
 
-/// The world after the turns of a schedule, of as many processes that run this code.
+/// The world after the turns of a schedule, of as many processes that run this code. The channels of the
+/// mask are ordered.
 pub fn world_after<'c>(
     alloc: Global,
     code: &'c Code,
     n: u8,
     schedule: &Schedule,
-) -> Result<World<CProc<'c>, ListMail>, WantOfMemory>
+    mask: u32,
+) -> Result<World<CProc<'c>, OrderedMail>, WantOfMemory>
     requires some { 0 < n }
     requires few { n ≤ 32 }
     requires turns { AreFewTurns n schedule.now }
-    requires code { (p : Program) × IsCodeOf p (code_of code.now) }
-    ensures runs { IfOk result (λ w. (p : Program) → IsCodeOf p (code_of code.now)
-        → RunsProgram ⟦<CProc<'c> as Proc>⟧.stands_for ⟦<CProc<'c> as Proc>⟧.name_of ⟦<CProc<'c> as Proc>⟧.origin_of ⟦<ListMail as Mail>⟧.letters w p (run_of_program p n schedule.now)) }
+    requires code { (p : Program) × IsCodeOf p (seen_code code.now) }
+    ensures runs { IfOk result (λ w. (p : Program) → IsCodeOf p (seen_code code.now)
+        → RunsProgram w p (run_of_program p n mask schedule.now)) }
     ensures size { IfOk result (λ w. length w.processes ≡ n) }
 {
     let seats = seats_of(alloc, code, n)?;
-    let mut world = World::new(alloc, seats)?;
+    let mut world = World::new(alloc, seats, mask)?;
     make_turns(alloc, &mut world, schedule)?;
     Ok(world)
 }

@@ -1,7 +1,8 @@
 //! Telling what stopped a command.
 
 ghost use Rattle.std.specs.Prelude.{◌≡◌, Err};
-ghost use Rattle.nm_top.specs.Stops.{Tells, status_of};
+ghost use Rattle.nm_top.specs.Statuses.{status_of};
+ghost use Rattle.nm_top.specs.private.Works.{Tells};
 
 use crate::status::Status;
 use crate::stop::Stop;

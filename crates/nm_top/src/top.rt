@@ -1,15 +1,15 @@
 //! The top call.
 
-ghost use Rattle.std.specs.Prelude.{◌≡◌, ◌≢◌, ◌⊎◌, IfSome, None};
+ghost use Rattle.std.specs.Prelude.{◌≡◌, ◌≢◌, ◌⊎◌, IfSome, IsTrue, None};
 ghost use Rattle.nm_outside.specs.Causes.{Rose};
+ghost use Rattle.nm_top.specs.declared.status.Status.{Status};
 ghost use Rattle.nm_top.specs.Commands.{command_of, texts};
-ghost use Rattle.nm_top.specs.Named.{IsInRange, named};
+ghost use Rattle.nm_top.specs.Statuses.{PrintsLine, is_of_files};
 ghost use Rattle.nm_top.specs.Replies.{Answers, Owed, PrintsPart};
-ghost use Rattle.nm_top.specs.Lines.{PrintsLine};
-ghost use Rattle.nm_top.specs.Needs.{IsMissing, IsPastLimit, IsRefused};
 ghost use Rattle.nm_top.specs.Answers.{Answer, Due, Fetches, Ready};
-ghost use Rattle.nm_top.specs.Stops.{Carries, outside};
-ghost use Rattle.nm_top.specs.Does.{Does};
+ghost use Rattle.nm_top.specs.private.Named.{IsInRange, named};
+ghost use Rattle.nm_top.specs.private.Works.{Carries, outside};
+ghost use Rattle.nm_top.specs.private.Top.{Does};
 
 use crate::run::run;
 use crate::status::Status;
@@ -29,23 +29,28 @@ fn carry_out<C: Cabinet, O: Sink>(
 ) -> Status
     requires { IsInRange command }
     ensures { Carries (named command.entry)
-        (outside (C.files files.old) (C.absents files.old) (C.read_faults files.old) (O.given out.old) (O.faults out.old))
-        (outside (C.files files.new) (C.absents files.new) (C.read_faults files.new) (O.given out.new) (O.faults out.new)) result }
+        (outside (C.files files.old) (C.absents files.old) (C.read_faults files.old) (O.given out.old)
+        (O.faults out.old))
+        (outside (C.files files.new) (C.absents files.new) (C.read_faults files.new) (O.given out.new)
+        (O.faults out.new)) result }
 {
     match command {
         Command::Run {
             program,
             processes,
             schedule,
-        } => run(alloc, program, processes, schedule, files, out),
+            mask,
+        } => run(alloc, program, processes, schedule, mask, files, out),
     }
 }
 
 // Carries out the command that the words name.
 fn work<C: Cabinet, O: Sink>(alloc: Global, words: &[String], files: &mut C, out: &mut O) -> Status
     ensures { Does (texts words.now)
-        (outside (C.files files.old) (C.absents files.old) (C.read_faults files.old) (O.given out.old) (O.faults out.old))
-        (outside (C.files files.new) (C.absents files.new) (C.read_faults files.new) (O.given out.new) (O.faults out.new)) result }
+        (outside (C.files files.old) (C.absents files.old) (C.read_faults files.old) (O.given out.old)
+        (O.faults out.old))
+        (outside (C.files files.new) (C.absents files.new) (C.read_faults files.new) (O.given out.new)
+        (O.faults out.new)) result }
 {
     match command_in(words) {
         Some(command) => carry_out(alloc, command, files, out),
@@ -63,38 +68,28 @@ pub fn racetrace<C: Cabinet, O: Sink>(
 ) -> Status
     // What is answered and printed, and what the files are then, is the answer that is defined for the
     // words and the files that are told, unless a write or memory failed.
-    ensures answer { Answers (Answer (texts words.now)) (C.files files.old) (C.files files.new) (O.given out.old) (O.given out.new) result }
+    ensures answer { Answers (Answer (texts words.now)) (C.files files.old) (C.files files.new) (O.given out.old)
+        (O.given out.new) result }
 
     // Usage comes exactly where no command has these words. Each refusal gives way to a write fault.
     ensures usage { result ≡ Status.Usage → command_of (texts words.now) ≡ None }
     ensures no_command { command_of (texts words.now) ≡ None → (result ≡ Status.Usage) ⊎ (result ≡ Status.WriteFault) }
 
-    // Absent comes exactly where a file wasn't found: where the files are told, that is where they lack the
-    // one that is due.
+    // A status that refuses what files hold (one is absent, or too long, or its text is none that is demanded) comes
+    // exactly where it is that of the command's first demand which isn't met.
+    ensures refused { IsTrue (is_of_files result) → IfSome (C.files files.old) (Due result (texts words.now)) }
+    ensures owed { IfSome (C.files files.old) (λ held. (due : Status) → Due due (texts words.now) held
+        → Owed due (C.read_faults files.old) (C.read_faults files.new) (O.faults out.old) (O.faults out.new) result) }
+
+    // Absent comes exactly where a file wasn't found.
     ensures absent { result ≡ Status.Absent → Rose (C.absents files.old) (C.absents files.new) }
-    ensures no_absent { result ≢ Status.Absent → result ≢ Status.WriteFault → C.absents files.new ≡ C.absents files.old }
-    ensures absent_due { result ≡ Status.Absent → IfSome (C.files files.old) (Due IsMissing (texts words.now)) }
-    ensures lacking { IfSome (C.files files.old) (λ held. Due IsMissing (texts words.now) held
-        → Owed Status.Absent (C.read_faults files.old) (C.read_faults files.new) (O.faults out.old) (O.faults out.new) result) }
+    ensures no_absent { result ≢ Status.Absent → result ≢ Status.WriteFault
+        → C.absents files.new ≡ C.absents files.old }
 
     // ReadFault comes exactly where a read failed.
     ensures read_fault { result ≡ Status.ReadFault → Rose (C.read_faults files.old) (C.read_faults files.new) }
-    ensures no_read_fault { result ≢ Status.ReadFault → result ≢ Status.WriteFault → C.read_faults files.new ≡ C.read_faults files.old }
-
-    // TooLong comes exactly where the file that is due passes its limit.
-    ensures too_long { result ≡ Status.TooLong → IfSome (C.files files.old) (Due IsPastLimit (texts words.now)) }
-    ensures past_limit { IfSome (C.files files.old) (λ held. Due IsPastLimit (texts words.now) held
-        → Owed Status.TooLong (C.read_faults files.old) (C.read_faults files.new) (O.faults out.old) (O.faults out.new) result) }
-
-    // ProgramRefused comes exactly where the text that is due is to be a program's and has none.
-    ensures program_refused { result ≡ Status.ProgramRefused → IfSome (C.files files.old) (Due (IsRefused Status.ProgramRefused) (texts words.now)) }
-    ensures no_program { IfSome (C.files files.old) (λ held. Due (IsRefused Status.ProgramRefused) (texts words.now) held
-        → Owed Status.ProgramRefused (C.read_faults files.old) (C.read_faults files.new) (O.faults out.old) (O.faults out.new) result) }
-
-    // ScheduleRefused comes exactly where the text that is due is to be a schedule's and names no turns.
-    ensures schedule_refused { result ≡ Status.ScheduleRefused → IfSome (C.files files.old) (Due (IsRefused Status.ScheduleRefused) (texts words.now)) }
-    ensures no_schedule { IfSome (C.files files.old) (λ held. Due (IsRefused Status.ScheduleRefused) (texts words.now) held
-        → Owed Status.ScheduleRefused (C.read_faults files.old) (C.read_faults files.new) (O.faults out.old) (O.faults out.new) result) }
+    ensures no_read_fault { result ≢ Status.ReadFault → result ≢ Status.WriteFault
+        → C.read_faults files.new ≡ C.read_faults files.old }
 
     // WriteFault comes exactly where a put failed, and leaves a part, from its front, of what would have been printed.
     ensures write_fault { result ≡ Status.WriteFault → Rose (O.faults out.old) (O.faults out.new) }
@@ -102,13 +97,14 @@ pub fn racetrace<C: Cabinet, O: Sink>(
     ensures part { result ≡ Status.WriteFault → PrintsPart (Answer (texts words.now))
         (C.read_faults files.old) (C.read_faults files.new) (C.files files.old) (O.given out.old) (O.given out.new) }
 
-    // A refusal prints its one line, which names a file that the command needs, and want of memory nothing,
+    // A refusal prints its one line, which names a file that the command fetches, and want of memory nothing,
     // also where the files aren't told.
     ensures line { PrintsLine (Fetches (texts words.now)) result (O.given out.old) (O.given out.new) }
 
-    // A command that has all that it needs is done.
+    // A command whose demands are met is done.
     ensures complete { IfSome (C.files files.old) (λ held. Ready (texts words.now) held
-        → Owed Status.Done (C.read_faults files.old) (C.read_faults files.new) (O.faults out.old) (O.faults out.new) result) }
+        → Owed Status.Done (C.read_faults files.old) (C.read_faults files.new) (O.faults out.old)
+        (O.faults out.new) result) }
 
     // The files stay as they are.
     ensures files { C.files files.new ≡ C.files files.old }

@@ -5,7 +5,7 @@ ghost use Rattle.nm_base.specs.Scripts.{Script};
 ghost use Rattle.event_list.specs.Turns.{run_of};
 ghost use Rattle.world.specs.Worlds.{IsWorldOf};
 ghost use Rattle.schedules.specs.Bounds.{AreFewTurns};
-ghost use Rattle.nm_top.specs.Turns.{seen_turn};
+ghost use Rattle.nm_top.specs.Schedules.{seen_turn};
 
 use mailboxes::{FreeGate, Mail};
 use nm_base::WantOfMemory;
@@ -21,10 +21,11 @@ pub fn make_turns<P: Proc, M: Mail>(
     world: &mut World<P, M>,
     schedule: &Schedule,
 ) -> Result<(), WantOfMemory>
-    requires begins { (s : ℕ → Script) × IsWorldOf P.stands_for P.name_of M.letters world.old s [] }
+    requires begins { (s : ℕ → Script) × IsWorldOf P.stands_for world.old s [] }
     requires turns { AreFewTurns (length world.old.processes) schedule.now }
-    ensures run { OnOk result ((s : ℕ → Script) → IsWorldOf P.stands_for P.name_of M.letters world.old s []
-        → IsWorldOf P.stands_for P.name_of M.letters world.new s (run_of s 0 (map seen_turn schedule.now))) }
+    ensures run { OnOk result ((s : ℕ → Script) → IsWorldOf P.stands_for world.old s []
+        → IsWorldOf P.stands_for world.new s (run_of s world.old.mask (map seen_turn schedule.now))) }
+    ensures mask { world.new.mask ≡ world.old.mask }
     ensures size { length world.new.processes ≡ length world.old.processes }
     ensures origins { map P.origin_of world.new.processes ≡ map P.origin_of world.old.processes }
 {

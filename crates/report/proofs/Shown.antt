@@ -19,25 +19,27 @@ use Rattle.event_list.specs.declared.Event.{Event}
 use Rattle.event_list.specs.Events.{count, messages}
 use Rattle.world.specs.Worlds.{Parts}
 use Rattle.c_process.specs.Standing.{IsCodeOf}
+use Rattle.c_process.specs.contracts.script.CProcProc.TheImpl as process
+use Rattle.c_process.specs.declared.process.CProc.{CProc}
 use Rattle.report.specs.Runs.{RunsProgram}
 
-module _ {P M : Type 0} (stands_for : P → Script → List Message → ℕ → Type 0) (name_of : P → ProcNo) (origin_of : P → Code × ℕ) (letters_of : M
-    → List Letter) (w : Parts P M) (program : Program) (E : List Event) (k : RunsProgram stands_for name_of origin_of letters_of w program E) (p : ℕ) (x : P)
-    (at : slice_get w.processes p ≡ Some x) where
-  -- it stands for its script
-  pub its_script : stands_for x (script_of program (length w.processes) p) (messages E p) (count E p)
-  its_script = k.stands.stands p x at
+module _ {M : Type 0} (w : Parts CProc M) (program : Program) (E : List Event) (k : RunsProgram w program E) (p : ℕ) (x : CProc) (at : slice_get w.processes p ≡ Some x)
+    (name : process.name_of-value.it x ≡ record { no = p })
+  where
+    -- it stands for its script
+    pub its_script : process.stands_for-value.it x (script_of program (length w.processes) p) (messages E p) (count E p)
+    its_script = k.stands.stands p x at
 
-  -- its code is that of the program
-  pub its_code : IsCodeOf program (origin_of x).0
-  its_code = subst (λ (o : Code × ℕ). IsCodeOf program o.0) (sym (k.runs p x at)) k.compiled
+    -- its code is that of the program
+    pub its_code : IsCodeOf program (process.origin_of-value.it x).0
+    its_code = subst (λ (o : Code × ℕ). IsCodeOf program o.0) (sym (k.runs p x at)) k.compiled
 
-  -- what is said of it by its own number and count of processes
-  pub its_own : {A : Type 0} (f : Program → ℕ → ℕ → List Message → ℕ → A)
-      → f program (origin_of x).1 (name_of x).no (messages E p) (count E p) ≡ f program (length w.processes) p (messages E p) (count E p)
-  its_own f =
-      ap (λ (o : Code × ℕ). f program o.1 (name_of x).no (messages E p) (count E p)) (k.runs p x at)
-      ∙ ap (λ (me : ProcNo). f program (length w.processes) me.no (messages E p) (count E p)) (k.stands.names p x at)
+    -- what is said of it by its own number and count of processes
+    pub its_own : {A : Type 0} (f : Program → ℕ → ℕ → List Message → ℕ → A)
+        → f program (process.origin_of-value.it x).1 (process.name_of-value.it x).no (messages E p) (count E p) ≡ f program (length w.processes) p (messages E p) (count E p)
+    its_own f =
+        ap (λ (o : Code × ℕ). f program o.1 (process.name_of-value.it x).no (messages E p) (count E p)) (k.runs p x at)
+        ∙ ap (λ (me : ProcNo). f program (length w.processes) me.no (messages E p) (count E p)) name
 
 pub prints_block : (a b : Option (List ℕ)) (f g p : ℕ) (look look' : Look) (line line' events events' : ℕ) (output output' : List ℕ) (r : Result ⊤ Failed)
     → look ≡ look' → line ≡ line' → events ≡ events' → output ≡ output' → Prints a b f g (block p look line events output) r → Prints a b f g (block p look' line' events' output') r

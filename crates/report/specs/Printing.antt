@@ -7,7 +7,8 @@ use Rattle.nm_outside.specs.Causes.{BelongsTo}
 use Rattle.nm_outside.specs.Files.{AppendsPart}
 
 -- The sink was given the whole text; or it failed after a part of it, and then its count of faults rose.
-pub record Prints (before after : Option (List ℕ)) (was now : ℕ) (text : List ℕ) (result : Result ⊤ Failed) : Type 0 where
+pub record Prints (before after : Option (List ℕ)) (was now : ℕ) (text : List ℕ)
+    (result : Result ⊤ Failed) : Type 0 where
   pub ok : OnOk result (Appends before after text)
   pub err : OnErr result (AppendsPart before after text)
   pub cause : BelongsTo (is_err result) was now

@@ -1,4 +1,5 @@
--- The printed texts, as functions of plain values. Numbers are decimal without leading zeros; every line ends with one newline.
+-- The printed texts, as functions of plain values. Numbers are decimal without leading zeros; every line ends with one
+-- newline.
 use Rattle.std.specs.Prelude.{ℕ, ◌+◌, ◌-◌, ◌^◌, ◌/◌, ◌%◌, slice_get, List, [], ◌∷◌, ◌++◌, length, map, codes, ◌==◌, nat_lt, if◌then◌else◌}
 use Rattle.std.specs.Option.{option_map_or}
 use Rattle.std.specs.Fmt.{decimal, signed_decimal}

@@ -30,7 +30,8 @@ fn cause_name(cause: FaultCause) -> &'static [u8]
 
 // How a process stands. The line is that of a fault.
 fn put_look<O: Sink>(out: &mut O, look: Look, line: u32) -> Result<(), Failed>
-    ensures { Prints (O.given out.old) (O.given out.new) (O.faults out.old) (O.faults out.new) (texts.look_text look line) result }
+    ensures { Prints (O.given out.old) (O.given out.new) (O.faults out.old) (O.faults out.new)
+        (texts.look_text look line) result }
 {
     let mut digits = Buffer::new();
     match look {
@@ -51,7 +52,8 @@ fn put_look<O: Sink>(out: &mut O, look: Look, line: u32) -> Result<(), Failed>
 
 // The beginning of a block's first line.
 fn put_process<O: Sink>(out: &mut O, process: u8) -> Result<(), Failed>
-    ensures { Prints (O.given out.old) (O.given out.new) (O.faults out.old) (O.faults out.new) (texts.process_text process) result }
+    ensures { Prints (O.given out.old) (O.given out.new) (O.faults out.old) (O.faults out.new)
+        (texts.process_text process) result }
 {
     let mut digits = Buffer::new();
     put_pieces(
@@ -62,7 +64,8 @@ fn put_process<O: Sink>(out: &mut O, process: u8) -> Result<(), Failed>
 
 // The end of a block's first line.
 fn put_counts<O: Sink>(out: &mut O, events: u32, bytes: usize) -> Result<(), Failed>
-    ensures { Prints (O.given out.old) (O.given out.new) (O.faults out.old) (O.faults out.new) (texts.counts_text events bytes) result }
+    ensures { Prints (O.given out.old) (O.given out.new) (O.faults out.old) (O.faults out.new)
+        (texts.counts_text events bytes) result }
 {
     let mut event_digits = Buffer::new();
     let mut byte_digits = Buffer::new();
@@ -97,7 +100,8 @@ fn put_head<O: Sink>(
     events: u32,
     bytes: usize,
 ) -> Result<(), Failed>
-    ensures { Prints (O.given out.old) (O.given out.new) (O.faults out.old) (O.faults out.new) (texts.head_text process look line events bytes) result }
+    ensures { Prints (O.given out.old) (O.given out.new) (O.faults out.old) (O.faults out.new)
+        (texts.head_text process look line events bytes) result }
 {
     put_process(out, process)?;
     put_look(out, look, line)?;
@@ -106,7 +110,8 @@ fn put_head<O: Sink>(
 
 // The output, with a newline behind it if it doesn't end in one.
 fn put_output<O: Sink>(out: &mut O, output: &[u8]) -> Result<(), Failed>
-    ensures { Prints (O.given out.old) (O.given out.new) (O.faults out.old) (O.faults out.new) (output.now ++ texts.line_end output.now) result }
+    ensures { Prints (O.given out.old) (O.given out.new) (O.faults out.old) (O.faults out.new)
+        (output.now ++ texts.line_end output.now) result }
 {
     put_pieces(out, &[output])?;
     put_pieces(out, &[line_end(output)])
@@ -122,7 +127,8 @@ pub fn block<O: Sink>(
     events: u32,
     output: &[u8],
 ) -> Result<(), Failed>
-    ensures { Prints (O.given out.old) (O.given out.new) (O.faults out.old) (O.faults out.new) (texts.block process look line events output.now) result }
+    ensures { Prints (O.given out.old) (O.given out.new) (O.faults out.old) (O.faults out.new)
+        (texts.block process look line events output.now) result }
 {
     put_head(out, process, look, line, events, output.len())?;
     put_output(out, output)

@@ -8,7 +8,8 @@ use nm_outside::{Failed, Sink};
 
 /// Gives the pieces one after the other.
 pub(crate) fn put_pieces<O: Sink>(out: &mut O, pieces: &[&[u8]]) -> Result<(), Failed>
-    ensures { Prints (O.given out.old) (O.given out.new) (O.faults out.old) (O.faults out.new) (joined pieces.now) result }
+    ensures { Prints (O.given out.old) (O.given out.new) (O.faults out.old) (O.faults out.new)
+        (joined pieces.now) result }
 {
     for piece in pieces {
         out.put(piece)?;

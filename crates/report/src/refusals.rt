@@ -11,7 +11,8 @@ use nm_outside::{Failed, Sink};
 
 // A line that ends with a name.
 fn put_name<O: Sink>(out: &mut O, start: &[u8], name: &str) -> Result<(), Failed>
-    ensures { Prints (O.given out.old) (O.given out.new) (O.faults out.old) (O.faults out.new) (texts.name_line start.now name.now) result }
+    ensures { Prints (O.given out.old) (O.given out.new) (O.faults out.old) (O.faults out.new)
+        (texts.name_line start.now name.now) result }
 {
     put_pieces(out, &[start, name.as_bytes(), b"\n"])
 }
@@ -24,7 +25,8 @@ fn put_kind<O: Sink>(
     middle: &[u8],
     number: u32,
 ) -> Result<(), Failed>
-    ensures { Prints (O.given out.old) (O.given out.new) (O.faults out.old) (O.faults out.new) (texts.kind_line start.now kind.now middle.now number) result }
+    ensures { Prints (O.given out.old) (O.given out.new) (O.faults out.old) (O.faults out.new)
+        (texts.kind_line start.now kind.now middle.now number) result }
 {
     let mut digits = Buffer::new();
     put_pieces(out, &[start, kind.as_bytes(), middle])?;
@@ -33,7 +35,8 @@ fn put_kind<O: Sink>(
 
 /// The line of a refusal.
 pub fn refusal<O: Sink>(out: &mut O, r: &Refusal<'_>) -> Result<(), Failed>
-    ensures { Prints (O.given out.old) (O.given out.new) (O.faults out.old) (O.faults out.new) (texts.refusal_line r.now) result }
+    ensures { Prints (O.given out.old) (O.given out.new) (O.faults out.old) (O.faults out.new)
+        (texts.refusal_line r.now) result }
 {
     match r {
         Refusal::Usage => put_pieces(out, &[b"usage\n"]),

@@ -2,8 +2,7 @@
 
 ghost use Rattle.std.specs.Prelude.{◌≡◌, ◌<◌, List, length, is_err};
 ghost use Rattle.c_tree.specs.declared.program.Program.{Program};
-ghost use Rattle.event_list.specs.declared.Event.{Event as Made};
-ghost use Rattle.event_list.specs.Events.{taken};
+ghost use Rattle.event_list.specs.declared.Event.{Event};
 ghost use Rattle.nm_outside.specs.Causes.{BelongsTo};
 ghost use Rattle.report.specs.Printing.{Prints};
 ghost use Rattle.report.specs.Runs as runs;
@@ -25,8 +24,9 @@ fn put_block<'c, M: Mail, O: Sink>(
     p: ProcNo,
 ) -> Result<(), Failed>
     requires { p.no < length world.now.processes }
-    ensures text { (program : Program) (E : List Made) → RunsProgram ⟦<CProc<'c> as Proc>⟧.stands_for ⟦<CProc<'c> as Proc>⟧.name_of ⟦<CProc<'c> as Proc>⟧.origin_of M.letters world.now program E
-        → Prints (O.given out.old) (O.given out.new) (O.faults out.old) (O.faults out.new) (block_of program (length world.now.processes) E p.no) result }
+    ensures text { (program : Program) (E : List Event) → RunsProgram world.now program E
+        → Prints (O.given out.old) (O.given out.new) (O.faults out.old) (O.faults out.new)
+        (block_of program (length world.now.processes) E p.no) result }
     ensures cause { BelongsTo (is_err result) (O.faults out.old) (O.faults out.new) }
 {
     let process = world.seat(p).process();
@@ -37,8 +37,9 @@ fn put_block<'c, M: Mail, O: Sink>(
 
 // The blocks in order of the processes' numbers.
 fn put_blocks<'c, M: Mail, O: Sink>(out: &mut O, world: &World<CProc<'c>, M>) -> Result<(), Failed>
-    ensures text { (program : Program) (E : List Made) → RunsProgram ⟦<CProc<'c> as Proc>⟧.stands_for ⟦<CProc<'c> as Proc>⟧.name_of ⟦<CProc<'c> as Proc>⟧.origin_of M.letters world.now program E
-        → Prints (O.given out.old) (O.given out.new) (O.faults out.old) (O.faults out.new) (all_blocks program (length world.now.processes) E) result }
+    ensures text { (program : Program) (E : List Event) → RunsProgram world.now program E
+        → Prints (O.given out.old) (O.given out.new) (O.faults out.old) (O.faults out.new)
+        (all_blocks program (length world.now.processes) E) result }
     ensures cause { BelongsTo (is_err result) (O.faults out.old) (O.faults out.new) }
 {
     for p in 0..world.n() {
@@ -47,29 +48,17 @@ fn put_blocks<'c, M: Mail, O: Sink>(out: &mut O, world: &World<CProc<'c>, M>) ->
     Ok(())
 }
 
-// How many letters were accepted.
-fn accepted<'c, M: Mail>(world: &World<CProc<'c>, M>) -> u32
-    ensures { (program : Program) (E : List Made) → RunsProgram ⟦<CProc<'c> as Proc>⟧.stands_for ⟦<CProc<'c> as Proc>⟧.name_of ⟦<CProc<'c> as Proc>⟧.origin_of M.letters world.now program E
-        → result ≡ length (taken E) }
-{
-    let events = world.events();
-    let mut sum: u32 = 0;
-    for p in 0..world.n() {
-        sum = sum.saturating_add(world.receives(ProcNo { no: p }));
-    }
-    sum.min(events)
-}
-
 /// The blocks of all processes in order of their numbers, and the summary. A letter that was sent
 /// and not accepted waits.
 pub fn blocks<'c, M: Mail, O: Sink>(out: &mut O, world: &World<CProc<'c>, M>) -> Result<(), Failed>
-    ensures text { (program : Program) (E : List Made) → RunsProgram ⟦<CProc<'c> as Proc>⟧.stands_for ⟦<CProc<'c> as Proc>⟧.name_of ⟦<CProc<'c> as Proc>⟧.origin_of M.letters world.now program E
-        → Prints (O.given out.old) (O.given out.new) (O.faults out.old) (O.faults out.new) (runs.blocks program (length world.now.processes) E) result }
+    ensures text { (program : Program) (E : List Event) → RunsProgram world.now program E
+        → Prints (O.given out.old) (O.given out.new) (O.faults out.old) (O.faults out.new)
+        (runs.blocks program (length world.now.processes) E) result }
     ensures cause { BelongsTo (is_err result) (O.faults out.old) (O.faults out.new) }
 {
     put_blocks(out, world)?;
     let sent = world.sent();
-    let accepted = accepted(world);
+    let accepted = world.accepted();
     summary(
         out,
         world.events(),

@@ -17,7 +17,8 @@ pub fn summary<O: Sink>(
     accepted: u32,
     waiting: u32,
 ) -> Result<(), Failed>
-    ensures { Prints (O.given out.old) (O.given out.new) (O.faults out.old) (O.faults out.new) (texts.summary events sent accepted waiting) result }
+    ensures { Prints (O.given out.old) (O.given out.new) (O.faults out.old) (O.faults out.new)
+        (texts.summary events sent accepted waiting) result }
 {
     let mut event_digits = Buffer::new();
     let mut sent_digits = Buffer::new();

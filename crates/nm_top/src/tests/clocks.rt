@@ -7,8 +7,8 @@ use super::TWO_LETTERS;
 use super::one_process::code_of;
 use crate::start::world_after;
 use c_process::CProc;
-use mailboxes::{FreeGate, ListMail, Mail};
-use nm_base::{Kind, LetterId, ProcNo, Stamp};
+use mailboxes::{FreeGate, Mail, OrderedMail};
+use nm_base::{Kind, LetterId, MAX_EVENTS, MAX_SCHEDULE_BYTES, ProcNo, Stamp};
 use race_tracer::Tracer;
 use schedules::{Schedule, Turn, read_schedule};
 use std::alloc::Global;
@@ -50,6 +50,22 @@ const TWO_CHANNELS: &str =
 const TO_ITSELF: &str =
     "int main(void)\n{\n    send(0, 0, 1);\n    send(0, 0, 2);\n    receive(1u);\n    receive(1u);\n    send(0, 0, 3);\n    receive(1u);\n    return 0;\n}\n";
 
+// Processes 1 and 2 send process 0 two letters and one, and it receives three.
+const THREE_RECEIVES: &str = "
+int main(void)
+{
+    int i;
+    if (self() == 0) {
+        for (i = 0; i < 3; i++)
+            printf(\"%d\\n\", receive(1u));
+    } else {
+        for (i = self(); i < 3; i++)
+            send(0, 0, self() * 10 + i);
+    }
+    return 0;
+}
+";
+
 fn parts(stamp: &Stamp) -> Parts {
     [stamp.parts[0], stamp.parts[1], stamp.parts[2]]
 }
@@ -62,7 +78,7 @@ fn name(id: LetterId) -> Name {
 fn schedule_of(alloc: Global, text: &str, n: u8) -> Result<Schedule, Fail>
     ensures { IfOk result (AreFewTurns n) }
 {
-    if n == 0 || n > 32 || text.len() > 4_194_304 {
+    if n == 0 || n > 32 || text.len() > MAX_SCHEDULE_BYTES as usize {
         return Err("a schedule too long, or for no process")?;
     }
     match read_schedule(alloc, text.as_bytes(), n) {
@@ -74,17 +90,17 @@ fn schedule_of(alloc: Global, text: &str, n: u8) -> Result<Schedule, Fail>
 /// Makes a turn, if there is such a process and there is room for an event.
 fn turned(
     alloc: Global,
-    world: &mut World<CProc<'_>, ListMail>,
+    world: &mut World<CProc<'_>, OrderedMail>,
     turn: Turn,
 ) -> Result<Turned, Fail> {
-    if turn.proc.no >= world.n() || world.events() >= 1_000_000 {
+    if turn.proc.no >= world.n() || world.events() >= MAX_EVENTS {
         return Err("no turn")?;
     }
     Ok(world.turn(alloc, turn, &FreeGate)?)
 }
 
 /// The clocks of the first three processes.
-fn clocks_of(alloc: Global, world: &World<CProc<'_>, ListMail>) -> Result<Vec<Parts>, Fail> {
+fn clocks_of(alloc: Global, world: &World<CProc<'_>, OrderedMail>) -> Result<Vec<Parts>, Fail> {
     let mut clocks = Vec::new(alloc);
     for p in 0..world.n().min(3) {
         clocks.push(parts(world.clock(ProcNo { no: p })))?;
@@ -92,16 +108,16 @@ fn clocks_of(alloc: Global, world: &World<CProc<'_>, ListMail>) -> Result<Vec<Pa
     Ok(clocks)
 }
 
-/// The logged letters that wait.
+/// The logged letters that wait, where no channel is ordered: then it doesn't matter which are first.
 fn lost_of(
     alloc: Global,
-    world: &World<CProc<'_>, ListMail>,
+    world: &World<CProc<'_>, OrderedMail>,
     tracer: &Tracer,
 ) -> Result<Vec<Name>, Fail> {
     let mut lost = Vec::new(alloc);
     for posted in 0..world.sent() {
         if let Some(letter) = world.mail().next_from(posted) {
-            if letter.posted == posted && tracer.unreceived(letter) {
+            if letter.posted == posted && tracer.unreceived(letter, true) {
                 lost.push(name(letter.id))?;
             }
         }
@@ -109,16 +125,17 @@ fn lost_of(
     Ok(lost)
 }
 
-/// What is seen of the run of a program as so many processes under a schedule.
-fn facts_of(alloc: Global, text: &str, n: u8, schedule: &str) -> Result<Facts, Fail> {
+/// What is seen of the run of a program as so many processes under a schedule, with these channels
+/// ordered.
+fn facts_of(alloc: Global, text: &str, n: u8, schedule: &str, mask: u32) -> Result<Facts, Fail> {
     if n == 0 || n > 32 {
         return Err("no processes")?;
     }
     let code = code_of(alloc, text)?;
     let none = schedule_of(alloc, "", n)?;
     let schedule = schedule_of(alloc, schedule, n)?;
-    let mut world = world_after(alloc, &code, n, &none)?;
-    let mut tracer = Tracer::new(n);
+    let mut world = world_after(alloc, &code, n, &none, mask)?;
+    let mut tracer = Tracer::new(alloc, n, mask)?;
     let mut stamps = Vec::new(alloc);
     let mut notes = Vec::new(alloc);
     for i in 0..schedule.turns() {
@@ -149,7 +166,7 @@ fn facts_of(alloc: Global, text: &str, n: u8, schedule: &str) -> Result<Facts, F
 /// its send, and a clock counts the past of its process's last event.
 #[test]
 fn clocks_count_the_past(rt: HostRuntime) -> Result<(), Fail> {
-    let facts = facts_of(rt.alloc(), TWO_LETTERS, 3, "1*6 2*6 0*10")?;
+    let facts = facts_of(rt.alloc(), TWO_LETTERS, 3, "1*6 2*6 0*10", 0)?;
     assert_eq!(&rt;
         facts.clocks.as_slice(),
         [[10, 4, 4], [0, 6, 0], [0, 0, 6]].as_slice()
@@ -178,14 +195,32 @@ fn letters_that_raced_are_logged(rt: HostRuntime) -> Result<(), Fail> {
         (TO_ITSELF, 1, "0*15", Some((0, 1, (0, 1))), None),
     ];
     for (text, n, schedule, note, lost) in table {
-        let facts = facts_of(rt.alloc(), text, n, schedule)?;
+        let facts = facts_of(rt.alloc(), text, n, schedule, 0)?;
         assert_eq!(&rt; facts.notes.as_slice(), note.as_slice(), "{text}");
         assert_eq!(&rt; facts.lost.as_slice(), lost.as_slice(), "{text}");
     }
-    let stamps = facts_of(rt.alloc(), TO_ITSELF, 1, "0*15")?.stamps;
+    let stamps = facts_of(rt.alloc(), TO_ITSELF, 1, "0*15", 0)?.stamps;
     assert_eq!(&rt;
         stamps.as_slice(),
         [[3, 0, 0], [5, 0, 0], [11, 0, 0]].as_slice()
     );
+    Ok(())
+}
+
+/// On an ordered channel a letter can't come before its sender's earlier ones, so fewer letters race.
+#[test]
+fn letters_that_raced_on_an_ordered_channel_are_logged(rt: HostRuntime) -> Result<(), Fail> {
+    let second_sender: &[(u8, u32, Name)] = &[(0, 2, (2, 0))];
+    let both_in_turn: &[(u8, u32, Name)] = &[(0, 1, (2, 0)), (0, 2, (1, 1))];
+    let no_order: &[(u8, u32, Name)] = &[(0, 1, (1, 1)), (0, 2, (2, 0))];
+    let table = [
+        ("1*11 2*8 0*17", 0, no_order),
+        ("1*11 2*8 0*17", 1, second_sender),
+        ("1*11 2*8 0*8 0/1 0*8", 1, both_in_turn),
+    ];
+    for (schedule, mask, notes) in table {
+        let facts = facts_of(rt.alloc(), THREE_RECEIVES, 3, schedule, mask)?;
+        assert_eq!(&rt; facts.notes.as_slice(), notes, "{schedule} under {mask}");
+    }
     Ok(())
 }

@@ -2,13 +2,13 @@
 
 ghost use Rattle.std.specs.Prelude.{IfOk};
 ghost use Rattle.c_tree.specs.declared.program.Program.{Program};
-ghost use Rattle.stack_code.specs.View.{code_of};
+ghost use Rattle.stack_code.specs.View.{seen_code};
 ghost use Rattle.c_process.specs.Standing.{IsCodeOf};
 
 use crate::program::program_of;
 use crate::start::compiled;
 use c_process::CProc;
-use nm_base::{FaultCause, Kind, ProcNo, WantOfMemory};
+use nm_base::{FaultCause, Kind, MAX_EVENTS, MAX_PROGRAM_BYTES, ProcNo, WantOfMemory};
 use processes::{Look, Proc, Seat, Stepped};
 use stack_code::Code;
 use std::alloc::Global;
@@ -22,10 +22,10 @@ const FOR_EVER: &str = "int main(void) { for (;;) {} }";
 
 /// The code of a program text.
 pub(super) fn code_of(alloc: Global, text: &str) -> Result<Code, Fail>
-    ensures { IfOk result (λ code. (p : Program) × IsCodeOf p (code_of code)) }
+    ensures { IfOk result (λ code. (p : Program) × IsCodeOf p (seen_code code)) }
 {
     let text = text.as_bytes();
-    if text.len() > 262_144 {
+    if text.len() > MAX_PROGRAM_BYTES as usize {
         return Err("too long")?;
     }
     let Ok(program) = program_of(alloc, text) else {
@@ -45,7 +45,7 @@ fn next<'c>(
     alloc: Global,
     seat: Seat<CProc<'c>>,
 ) -> Result<(Seat<CProc<'c>>, Option<Kind>), WantOfMemory> {
-    if seat.process().count() >= 1_000_000 {
+    if seat.process().count() >= MAX_EVENTS {
         return Ok((seat, None));
     }
     match seat {

@@ -31,6 +31,12 @@ fn words(rt: HostRuntime) -> Result<(), Fail> {
         "run P +1 S",
         "run P 00000000001 S",
         "run P 4294967297 S",
+        "run P 1 S 4294967296",
+        "run P 1 S 00000000001",
+        "run P 1 S -1",
+        "run P 0 S 1",
+        "walk P 1 S 1",
+        "run P 1 S 1 1",
         "--help",
         "--version",
     ];

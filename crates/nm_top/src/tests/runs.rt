@@ -82,6 +82,47 @@ fn letters(rt: HostRuntime) -> Result<(), Fail> {
     Ok(())
 }
 
+// Process 1 sends two letters on channel 0, and process 0 receives them.
+const TWO_OF_ONE_SENDER: &str = "
+int main(void)
+{
+    if (self() == 1) {
+        send(0, 0, 11);
+        send(0, 0, 22);
+    } else {
+        printf(\"%d \", receive(1u));
+        printf(\"%d\\n\", receive(1u));
+    }
+    return 0;
+}
+";
+
+/// On an ordered channel the letters of one sender are accepted in the order of their sends,
+/// whatever the schedule picks; another channel in the mask changes nothing.
+#[test]
+fn ordered_channels(rt: HostRuntime) -> Result<(), Fail> {
+    let in_order =
+        "== process 0 ended 0, 10 events, 6 bytes\n11 22\n== process 1 ended 0, 8 events, 0 bytes\n== events 18, sent 2, accepted 2, waiting 0\n";
+    let swapped =
+        "== process 0 ended 0, 10 events, 6 bytes\n22 11\n== process 1 ended 0, 8 events, 0 bytes\n== events 18, sent 2, accepted 2, waiting 0\n";
+    let table = [
+        ("run P 2 S", swapped),
+        ("run P 2 S 0", swapped),
+        ("run P 2 S 1", in_order),
+        ("run P 2 S 2", swapped),
+        ("run P 2 S 4294967294", swapped),
+        ("run P 2 S 4294967295", in_order),
+    ];
+    for (line, printed) in table {
+        run_holds(
+            &rt,
+            rt.alloc(),
+            (line, TWO_OF_ONE_SENDER, "1*8 0*3 0/1 0*6", printed),
+        )?;
+    }
+    Ok(())
+}
+
 /// A process stops where its turns end, and turns of a process that is over change nothing. A number
 /// may begin with zeros; the last schedule is the longest.
 #[test]

@@ -1,5 +1,5 @@
 use Rattle.std.proofs.Common.{refl}
 use Rattle.nm_top.proofs.fetch.bad_word.Goals as goal
 
-pub returns-clause-stops : goal.returns-clause-stops
-returns-clause-stops c = λ held n text h. (_, h, refl)
+pub returns-clause-unmet : goal.returns-clause-unmet
+returns-clause-unmet c = λ name n text h. (refl, (_, h, refl))

@@ -1,8 +1,14 @@
+use Rattle.std.proofs.Common.{refl}
 use Rattle.std.proofs.lemmas.Option.{IfSome_then}
-use Rattle.nm_top.proofs.FileLaws.{program_stop}
+use Rattle.nm_top.specs.Demands.{ProgramText}
+use Rattle.nm_top.proofs.FileLaws.{unfetched_stops, unmet_stops, held_read}
 use Rattle.nm_top.proofs.fetch.program_in.Goals as goal
 
+pub returns-in-Err-clause-gives : goal.returns-in-Err-clause-gives
+returns-in-Err-clause-gives g c = IfSome_then (g.C.Cabinet.files c.args.files.now) c.in-Err.ensures.unfetched
+    (λ held why. unfetched_stops (ProgramText c.args.name.now) held _ refl c.in-Err.stop why)
+
 pub returns-clause-gives : goal.returns-clause-gives
-returns-clause-gives g c = IfSome_then (g.C.Cabinet.files c.args.files.now) c.in-Ok.ensures.gives
-    (λ held there. program_stop held c.args.name.now c.in-Ok.text.items c.deref.result.now there c.deref.ensures.value c.unread.result c.in-Ok.ensures.limit
-    (c.unread.ensures.stops held c.deref.result.now c.in-Err-program_of.ensures.refused))
+returns-clause-gives g c = IfSome_then (g.C.Cabinet.files c.args.files.now) c.in-Ok.ensures.found
+    (λ held there. unmet_stops (ProgramText c.args.name.now) held _ refl c.deref.result.now (held_read held _ c.in-Ok.text.items c.deref.result.now c.deref.ensures.value there) c.unread.result
+    (c.unread.ensures.unmet c.args.name.now c.deref.result.now c.in-Err-program_of.ensures.refused))

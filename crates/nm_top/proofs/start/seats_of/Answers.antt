@@ -1,12 +1,11 @@
 use Rattle.std.proofs.Common.{◌+◌, sym, subst}
-use Rattle.stack_code.specs.View.{code_of}
-use Rattle.c_process.specs.contracts.script.CProcProc.TheImpl as impl
-use Rattle.nm_top.specs.Begun.{AreBegun}
+use Rattle.stack_code.specs.View.{seen_code}
+use Rattle.nm_top.specs.private.Begun.{AreBegun}
 use Rattle.nm_top.proofs.StartLaws.{begun_more}
 use Rattle.nm_top.proofs.start.seats_of.Goals as goal
 
 pub loop-me-preserved : goal.loop-me-preserved
 loop-me-preserved c =
-    subst (AreBegun impl.stands_for-value.it impl.name_of-value.it impl.origin_of-value.it (code_of c.args.code.now) c.args.n (c.loop-me.me + 1)) (sym c.in-Ok.ensures.items)
-    (begun_more impl.stands_for-value.it impl.name_of-value.it impl.origin_of-value.it (code_of c.args.code.now) c.args.n c.loop-me.me c.loop-me.seats.items c.begin.result c.in_ok-process.process
+    subst (AreBegun (seen_code c.args.code.now) c.args.n (c.loop-me.me + 1)) (sym c.in-Ok.ensures.items)
+    (begun_more (seen_code c.args.code.now) c.args.n c.loop-me.me c.loop-me.seats.items c.begin.result c.in_ok-process.process
     c.loop-me.invariant c.begin.ensures.process (record { stands = c.in_ok-process.ensures.stands; name = c.in_ok-process.ensures.name; origin = c.in_ok-process.ensures.origin }))

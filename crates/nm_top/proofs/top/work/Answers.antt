@@ -1,7 +1,7 @@
 use Rattle.std.proofs.Common.{sym, ap, ◌∙◌}
 use Rattle.std.specs.Option.{option_map}
 use Rattle.nm_top.specs.Commands.{texts}
-use Rattle.nm_top.specs.Named.{named}
+use Rattle.nm_top.specs.private.Named.{named}
 use Rattle.nm_top.proofs.CarryLaws.{does_command, does_usage}
 use Rattle.nm_top.proofs.top.work.Goals as goal
 

@@ -19,9 +19,9 @@ returns-in_err-put_blocks-clause-text g c = λ program E k.
 pub returns-clause-text : goal.returns-clause-text
 returns-clause-text g c = λ program E k.
     let n = length c.args.world.now.processes in
-    let sound = sent_letters 0 (runs_sound (script_of program n) k.stands.lawful k.stands.run) in
+    let sound = sent_letters c.args.world.now.mask (runs_sound (script_of program n) k.stands.lawful k.stands.run) in
     let sent = c.sent-sent.ensures ∙ k.stands.sent in
-    let accepted = c.accepted-accepted.ensures program E k in
+    let accepted = c.accepted-accepted.ensures ∙ k.stands.accepted in
     both _ _ _ _ _ _ (all_blocks program n E) (summary_of E) c.put_blocks.result c.summary.result c.in_ok-put_blocks.was (c.put_blocks.ensures.text program E k)
     (prints_summary _ _ _ _ _ (length E) _ (length (letters E)) _ (length (taken E)) _ (length (waiting E)) c.summary.result
     (c.events.ensures ∙ k.stands.events) sent accepted (omega (arith, c.saturating_sub.ensures, sent, accepted, sound)) c.summary.ensures)

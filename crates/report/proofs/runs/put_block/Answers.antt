@@ -3,6 +3,7 @@ use Rattle.c_tree.specs.Play.{script_of}
 use Rattle.event_list.specs.Events.{count, messages}
 use Rattle.c_process.specs.Shown.{look_after, line_after, output_after}
 use Rattle.c_process.proofs.Shown.{look_shown}
+use Rattle.c_process.specs.contracts.script.CProcProc.TheImpl as impl
 use Rattle.report.proofs.Shown.{its_script, its_code, its_own, prints_block}
 use Rattle.report.proofs.runs.put_block.Goals as goal
 
@@ -11,13 +12,15 @@ returns-clause-text g c = λ program E k.
     let p = c.args.p.no in
     let n = length c.args.world.now.processes in
     let x = c.process-process.result.now in
-    let at = c.seat.ensures ∙ ap Some (sym c.process-process.ensures.process) in
-    let s = its_script _ _ _ _ _ program E k p x at in
-    let code = its_code _ _ _ _ _ program E k p x at in
+    let seen = sym c.process-process.ensures.process in
+    let at = c.seat.ensures.process ∙ ap Some seen in
+    let name = ap impl.name_of-value.it (sym seen) ∙ c.seat.ensures.name in
+    let s = its_script _ program E k p x at name in
+    let code = its_code _ program E k p x at name in
     prints_block _ _ _ _ p _ (look_after program n p (messages E p) (count E p)) _ (line_after program n p (messages E p) (count E p)) _ (count E p) _ (output_after program n p (messages E p)
     (count E p)) _
-    (c.look-look.ensures ∙ look_shown x program (script_of program n p) (messages E p) (count E p) code s ∙ its_own _ _ _ _ _ program E k p x at look_after)
-    (c.line-line.ensures program (script_of program n p) (messages E p) (count E p) code s ∙ its_own _ _ _ _ _ program E k p x at line_after)
+    (c.look-look.ensures ∙ look_shown x program (script_of program n p) (messages E p) (count E p) code s ∙ its_own _ program E k p x at name look_after)
+    (c.line-line.ensures program (script_of program n p) (messages E p) (count E p) code s ∙ its_own _ program E k p x at name line_after)
     (c.count.ensures (script_of program n) E k.stands)
-    (c.output.ensures program (script_of program n p) (messages E p) (count E p) code s ∙ its_own _ _ _ _ _ program E k p x at output_after)
+    (c.output.ensures program (script_of program n p) (messages E p) (count E p) code s ∙ its_own _ program E k p x at name output_after)
     c.block.ensures
