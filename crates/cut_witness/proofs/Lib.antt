@@ -1,0 +1,5 @@
+pub mod EarlierFacts
+pub mod KeptFacts
+pub mod MakingFacts
+pub mod QueryFacts
+pub mod WorkedFacts
