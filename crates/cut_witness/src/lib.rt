@@ -3,12 +3,15 @@
 #![tactic(auto)]
 
 mod certificates;
+mod comparisons;
 mod earlier;
 mod kept;
+pub mod laws;
 mod making;
 mod query;
 #[cfg(test)]
 mod tests;
 
 pub use certificates::{Witness, WitnessTurn};
+pub use comparisons::Compared;
 pub use making::witness;
