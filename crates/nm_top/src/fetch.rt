@@ -29,7 +29,7 @@ use std::alloc::Global;
 use trace_file::{Trace, TraceFault, decode};
 
 /// A program, and the SHA-256 digest of its file.
-#[derive(Debug, Drop)]
+#[derive(Drop)]
 pub struct Source {
     pub program: Program,
     pub digest: [u8; 32],

@@ -16,7 +16,7 @@ use std::alloc::Global;
 use trace_file::Trace;
 
 /// A program, and a trace with the digest of its file.
-#[derive(Debug, Drop)]
+#[derive(Drop)]
 pub struct Pair {
     pub program: Program,
     pub trace: Trace,

@@ -45,8 +45,8 @@ fn replay_turns(
     Ok(idle)
 }
 
-// Prints the blocks and the summary of a replay, and the line of its turns.
-fn put_replay<O: Sink>(
+/// Prints the blocks and the summary of a replay, and the line of its turns.
+pub fn put_replay<O: Sink>(
     out: &mut O,
     world: &World<CProc<'_>, OrderedMail>,
     turns: u32,
@@ -85,7 +85,7 @@ fn replay_pair<O: Sink>(alloc: Global, pair: &Pair, schedule: &Schedule, out: &m
 }
 
 /// What a replay with a schedule demands.
-#[derive(Debug, Drop)]
+#[derive(Drop)]
 pub struct Scheduled {
     pair: Pair,
     schedule: Schedule,

@@ -73,7 +73,7 @@ fn run_program<O: Sink>(
 }
 
 /// What a run demands.
-#[derive(Debug, Drop)]
+#[derive(Drop)]
 pub struct Demanded {
     pub source: Source,
     pub schedule: Schedule,
