@@ -1,6 +1,7 @@
 -- What a command that was carried out answers.
 use Rattle.std.proofs.Common.{◌≡◌, ◌≢◌, ◌⊎◌, ℕ, zero, suc, List, [], Bool, true, false, Option, None, Some, Ok, Err, IfSome, MatchOption, inl, inr, refl, sym, ap, ◌∙◌, subst, arith, length}
 use Rattle.std.specs.Prelude.{take}
+use Rattle.std.proofs.lemmas.Option.{IfSome_then}
 use Rattle.std.specs.Io.KnownBytes.{Appends}
 use Rattle.std.specs.Option.{IsSomeAnd, option_and_then}
 use Rattle.nm_outside.specs.Causes.{BelongsTo, Rose}
@@ -42,8 +43,10 @@ use Rattle.nm_top.specs.private.Works.{
   work_status,
   work_text,
 }
+use Rattle.nm_top.specs.private.Tellings.{IsText, Told}
 use Rattle.nm_top.specs.private.Top.{Does}
 use Rattle.nm_top.proofs.DueLaws.{refused_due, owed, complete}
+use Rattle.nm_top.proofs.HeadlineLaws.{says_all}
 
 -- ---- a command that stopped
 
@@ -109,6 +112,70 @@ stopped command before after status stop stops counts short same writes told = r
     kept : (o : Option (List ℕ)) → KeepsOthers o before.files after.files
     kept None = same
     kept (Some name) = inl same
+
+-- What a command does with work that wrote no file.
+pub record Bears (command : Command) (files : Option Files) (work : Work) : Type 0 where
+  pub works : IfSome files (λ held. Works (CommandAnswer command held) (IsBroken command held) (Some held) work)
+  pub is_work : IsWorkOf command work
+  pub absent : is_absence (work_status work) ≡ false
+  pub fault : is_fault (work_status work) ≡ false
+  pub unbroken : is_broken work ≡ false
+
+counted_still : {X : Type 0} (P : List ℕ → Type 0) (x : X) (a b r s : ℕ) → Counts {X = X} P a b r s (Ok x) → (given : Bool) → given ≡ false → BelongsTo given a b × BelongsTo given r s
+counted_still P x a b r s c false e = (c.absent, c.failed)
+counted_still P x a b r s c true e = absurd cc
+
+-- what files hold was read, and such work was told
+pub carried : {X : Type 0} (Q : List ℕ → Type 0) (x : X) (command : Command) (before after : Outside) (status : Status) (P : Work → Type 0)
+    → Told P before.given after.given before.faults after.faults status → ((work : Work) → P work → Bears command before.files work)
+    → Counts {X = X} Q before.absents after.absents before.reads after.reads (Ok x) → after.files ≡ before.files → after.writes ≡ before.writes
+    → Carries command before after status
+carried Q x command before after status P told bears counts same writes =
+    let b = bears told.work told.is in
+    record {
+      work = told.work;
+      works = subst (λ (o : Option Files). IfSome before.files (λ held. Works (CommandAnswer command held) (IsBroken command held) o told.work)) (sym same)
+          (by before.files (CommandAnswer command) (IsBroken command) told.work b.works);
+      keeps = kept (written_of command);
+      is_work = b.is_work;
+      absent = (counted_still Q x before.absents after.absents before.reads after.reads counts (is_absence (work_status told.work)) b.absent).0;
+      failed = (counted_still Q x before.absents after.absents before.reads after.reads counts (is_fault (work_status told.work)) b.fault).1;
+      writes = no_writes (IsEnough command) before after told.work b.unbroken writes;
+      tells = told.tells;
+    }
+  where
+    by : (o : Option Files) (allowed : Files → Reply → Type 0) (broken : Files → Files → Type 0) (work : Work) → IfSome o (λ held. Works (allowed held) (broken held) (Some held) work)
+        → IfSome o (λ held. Works (allowed held) (broken held) o work)
+    by None allowed broken work h = tt
+    by (Some held) allowed broken work h = h
+
+    kept : (o : Option (List ℕ)) → KeepsOthers o before.files after.files
+    kept None = same
+    kept (Some name) = inl same
+
+-- a text that is the answer, or want of memory
+pub text_bears : (command : Command) (files : Option Files) (text : List ℕ) → IfSome files (λ held. CommandAnswer command held (reply statuses.Done text held)) → MayStopAt (Some command) []
+    → (work : Work) → IsText text work → Bears command files work
+text_bears command files text done stops (Whole t) is = record {
+  works = IfSome_then files done (λ held h. (held, refl, subst (λ (u : List ℕ). CommandAnswer command held (reply statuses.Done u held)) (sym is) h));
+  is_work = tt;
+  absent = refl;
+  fault = refl;
+  unbroken = refl;
+}
+text_bears command files text done stops (Short t) is = record {
+  works = by files;
+  is_work = subst (MayStopAt (Some command)) (sym is) stops;
+  absent = refl;
+  fault = refl;
+  unbroken = refl;
+}
+  where
+    by : (o : Option Files) → IfSome o (λ held. Works (CommandAnswer command held) (IsBroken command held) (Some held) (Short t))
+    by None = tt
+    by (Some held) = (held, refl, subst (λ (u : List ℕ). CommandAnswer command held (reply statuses.WantOfMemory u held)) (sym is) (nothing_short command held))
+text_bears command files text done stops (Refusing r) is = absurd is
+text_bears command files text done stops Broken is = absurd is
 
 -- ---- the status of work
 
@@ -320,6 +387,8 @@ module _ (words : List (List ℕ)) (before after : Outside) (status : Status) wh
         line = prints_line h.work before.given after.given before.faults after.faults status words (has_line words command is h.work h.is_work) tells;
         complete = complete words before.files after.files before.given after.given status answers before.reads after.reads before.writes after.writes before.faults after.faults fault write;
         keeps = subst (λ (o : Option Command). KeepsOthers (option_and_then written_of o) before.files after.files) (sym is) h.keeps;
+        headline = says_all words before.files after.files before.reads after.reads before.writes after.writes before.faults after.faults before.given after.given status answers
+            (complete words before.files after.files before.given after.given status answers before.reads after.reads before.writes after.writes before.faults after.faults fault write);
       }
     where
       works : IfSome before.files (λ held. Works (Answer words held) (MayBreak words held) after.files h.work)
@@ -385,6 +454,7 @@ module _ (words : List (List ℕ)) (F : Option Files) (a r w : ℕ) (room : Opti
         line = prints_line usage before after was now status words refl told;
         complete = complete words F F before after status (answers F told) r r w w was now fault write;
         keeps = subst (λ (o : Option Command). KeepsOthers (option_and_then written_of o) F F) (sym none) refl;
+        headline = says_all words F F r r w w was now before after status (answers F told) (complete words F F before after status (answers F told) r r w w was now fault write);
       }
     where
       written : Tells usage before after was now status → status ≡ statuses.WriteFault → Rose w w ⊎ Rose was now

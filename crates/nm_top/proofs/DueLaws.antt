@@ -81,7 +81,7 @@ module _ (held : Files) where
       by (Some bytes) k = (k.0, f bytes k.1)
 
   -- a refusal of a demand is its failing
-  fails : (demand : Demand) (reply : Reply) → Refuses demand held reply → FailsAs reply.status demand held
+  pub fails : (demand : Demand) (reply : Reply) → Refuses demand held reply → FailsAs reply.status demand held
   fails demand reply (answers.missing h) =
       let b = some_both (IsMissing held) (λ f. Says held Absent (absent_line f.name) reply) (reply.status ≡ Absent) (λ f says. ap (λ (r : Reply). r.status) says) (fetch_of demand) h in missing b.0 b.1
   fails demand reply (answers.too_long h) =
@@ -89,7 +89,7 @@ module _ (held : Files) where
   fails demand reply (answers.refused line h says) =
       refused (ap (λ (r : Reply). r.status) says) (holds_less (λ bytes. (Admits demand held bytes → ⊥) × IsReason demand held bytes line) (λ bytes. Admits demand held bytes → ⊥) (λ bytes k. k.0) (fetch_of demand) h)
 
-  read_status : (reply : Reply) (demand : Demand) → FailsToRead demand held reply → reply.status ≡ ReadFault
+  pub read_status : (reply : Reply) (demand : Demand) → FailsToRead demand held reply → reply.status ≡ ReadFault
   read_status reply demand h = by (fetch_of demand) h
     where
       by : (o : Option Fetch) → IsSomeAnd o (λ fetch. Says held ReadFault (read_fault_line fetch.name) reply) → reply.status ≡ ReadFault
@@ -125,7 +125,7 @@ module _ (held : Files) (done : Reply → Type 0) (ends : (reply : Reply) → do
 done_ends : (command : Command) (held : Files) (r : Reply) → IsDone command held r → r.status ≡ Done
 done_ends command held r h = ap (λ (r : Reply). r.status) h.2.2
 
-short_ends : (command : Command) (held : Files) (r : Reply) → IsShort command held r → r.status ≡ WantOfMemory
+pub short_ends : (command : Command) (held : Files) (r : Reply) → IsShort command held r → r.status ≡ WantOfMemory
 short_ends command held r h = ap (λ (r : Reply). r.status) h.2.2
 
 -- ---- the answer to words

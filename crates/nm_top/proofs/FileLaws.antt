@@ -41,7 +41,7 @@ same_reached p q t u e f =
 -- ---- what tells why a demand isn't met is told of nothing that meets it
 
 module _ (held : Files) where
-  one_text : (fetch : Fetch) (P Q : List ℕ → Type 0) → HoldsIn held P fetch → HoldsIn held Q fetch → (bytes : List ℕ) × P bytes × Q bytes
+  pub one_text : (fetch : Fetch) (P Q : List ℕ → Type 0) → HoldsIn held P fetch → HoldsIn held Q fetch → (bytes : List ℕ) × P bytes × Q bytes
   one_text fetch P Q p q = by (get held fetch.name) p q
     where
       by : (o : Option (List ℕ)) → IsSomeAnd o (λ bytes. (length bytes ≤ fetch.limit) × P bytes) → IsSomeAnd o (λ bytes. (length bytes ≤ fetch.limit) × Q bytes)

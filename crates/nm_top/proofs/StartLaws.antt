@@ -19,7 +19,7 @@ use Rattle.report.specs.Runs.{RunsProgram}
 use Rattle.nm_top.specs.private.Begun.{IsBegun, AreBegun}
 
 -- lists that a map takes to one list have at each place elements that it takes to one
-get_mapped : {X Y : Type 0} (f : X → Y) (xs ys : List X) (i : ℕ) (x : X) → map f xs ≡ map f ys → slice_get xs i ≡ Some x → (y : X) × (slice_get ys i ≡ Some y) × (f x ≡ f y)
+pub get_mapped : {X Y : Type 0} (f : X → Y) (xs ys : List X) (i : ℕ) (x : X) → map f xs ≡ map f ys → slice_get xs i ≡ Some x → (y : X) × (slice_get ys i ≡ Some y) × (f x ≡ f y)
 get_mapped {X = X} f xs ys i x e at =
     go (slice_get ys i) refl (ap (option_map f) (sym at) ∙ sym (slice_get-map f xs i) ∙ ap (λ zs. slice_get zs i) e ∙ slice_get-map f ys i)
   where

@@ -5,6 +5,7 @@ ghost use Rattle.nm_outside.specs.Causes.{Rose};
 ghost use Rattle.nm_top.specs.declared.status.Status.{Status};
 ghost use Rattle.nm_top.specs.Commands.{command_of, texts};
 ghost use Rattle.nm_top.specs.Statuses.{is_of_files};
+ghost use Rattle.nm_top.specs.Headline.{Headline};
 ghost use Rattle.nm_top.specs.Lines.{PrintsLine};
 ghost use Rattle.nm_top.specs.Replies.{Answers, Breaks, KeepsOthers, Owed};
 ghost use Rattle.nm_top.specs.Answers.{Answer, Due, MayBreak, Ready, Suffices, written_by};
@@ -142,6 +143,15 @@ pub fn racetrace<C: Cabinet, O: Sink>(
     ensures complete { IfSome (C.files files.old) (λ held. Ready (texts words.now) held
         → Owed Status.Done (C.read_faults files.old) (C.read_faults files.new) (C.write_faults files.old)
         (C.write_faults files.new) (O.faults out.old) (O.faults out.new) result) }
+
+    // Where the files hold the trace of a recorded run of the program that they hold, `replay` and `certify` are done,
+    // faults and want of memory aside. Each replay makes a front of what each process did in the recorded run, its
+    // events, states and output, with the same letter at each receive; without a schedule it comes to the recorded
+    // counts. A certificate is printed for each letter that is logged in that run: another run, which keeps both causal
+    // pasts, and in which the last earlier receive that could have accepted the letter accepts it.
+    ensures headline { IfSome (C.files files.old) (λ held. Headline (texts words.now) held (C.read_faults files.old)
+        (C.read_faults files.new) (C.write_faults files.old) (C.write_faults files.new) (O.faults out.old)
+        (O.faults out.new) (O.given out.old) (O.given out.new) result) }
 
     // No file changes but the one that the command writes.
     ensures keeps { KeepsOthers (written_by (texts words.now)) (C.files files.old) (C.files files.new) }

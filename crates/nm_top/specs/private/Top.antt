@@ -8,6 +8,7 @@ use Rattle.nm_top.specs.Statuses.{is_of_files}
 use Rattle.nm_top.specs.Lines.{PrintsLine}
 use Rattle.nm_top.specs.Replies.{Answers, Breaks, KeepsOthers, Owed}
 use Rattle.nm_top.specs.Answers.{Answer, MayBreak, Due, Ready, Suffices, written_by}
+use Rattle.nm_top.specs.Headline.{Headline}
 use Rattle.nm_top.specs.private.Works.{Outside}
 
 pub record Does (words : List (List ℕ)) (before after : Outside) (status : Status) : Type 0 where
@@ -33,3 +34,5 @@ pub record Does (words : List (List ℕ)) (before after : Outside) (status : Sta
   pub complete : IfSome before.files (λ held. Ready words held
       → Owed Done before.reads after.reads before.writes after.writes before.faults after.faults status)
   pub keeps : KeepsOthers (written_by words) before.files after.files
+  pub headline : IfSome before.files (λ held. Headline words held before.reads after.reads before.writes after.writes
+      before.faults after.faults before.given after.given status)

@@ -1,0 +1,158 @@
+-- Certificates that are printed one after the other.
+use Rattle.std.proofs.Common.{◌≡◌, ℕ, zero, suc, ◌+◌, ◌<◌, ◌≤◌, List, [], ◌∷◌, ◌++◌, length, take, drop, map, get_or, Option, None, Some, Ok, Err, Result, refl, sym, ap, ◌∙◌, subst, inl, inr, arith, append_assoc, append-nil, length-append, add-one}
+use Rattle.std.specs.Prelude.{⊤, ◌⊎◌}
+use Rattle.std.specs.Io.KnownBytes.{Appends}
+use Rattle.std.proofs.KnownBytes.{Appends-trans}
+use Rattle.std.proofs.lemmas.List.{take-append-drop}
+use Rattle.std.proofs.Math.Seq.{take-suc}
+use Rattle.nm_base.specs.declared.letter.LetterId.{LetterId}
+use Rattle.nm_base.specs.declared.letter.AcceptNote.{AcceptNote}
+use Rattle.nm_outside.specs.Causes.{Rose}
+use Rattle.nm_outside.specs.Files.{AppendsPart}
+use Rattle.nm_outside.specs.declared.cabinet.Failed.{Failed}
+use Rattle.nm_outside.proofs.Parts.{part_given}
+use Rattle.c_tree.specs.declared.program.Program.{Program}
+use Rattle.event_list.specs.declared.Event.{Event}
+use Rattle.cut_witness.specs.declared.certificates.Witness.{Witness}
+use Rattle.cut_witness.specs.Comparisons.{Noted, Missed, letter_in, trace_entries}
+use Rattle.report.specs.Printing.{Prints}
+use Rattle.report.specs.Texts.{certificate, certificates_line}
+use Rattle.nm_top.specs.declared.status.Status.{Status}
+use Rattle.nm_top.specs.declared.status.Status.TheVariants as statuses
+use Rattle.nm_top.specs.declared.certify.Halt.{Halt}
+use Rattle.nm_top.specs.declared.certify.Halt.TheVariants.{Write, Memory}
+use Rattle.nm_top.specs.Certifying.{Certifies, AreCertified, none, more}
+use Rattle.nm_top.specs.private.Works.{Work, Whole, Short, Tells}
+use Rattle.nm_top.specs.private.Certifications.{Given, GivenPart, PutsCertificates}
+use Rattle.nm_top.specs.private.Tellings.{Told, AreCertificates}
+
+-- the letters that a trace names are those of its notes and then the lost ones
+pub names_are : (notes : List AcceptNote) (lost : List LetterId) → map letter_in (trace_entries notes lost) ≡ map (λ note. note.id) notes ++ lost
+names_are [] lost = missed lost
+  where
+    missed : (ids : List LetterId) → map letter_in (map Missed ids) ≡ ids
+    missed [] = refl
+    missed (id ∷ ids) = ap (λ (xs : List LetterId). id ∷ xs) (missed ids)
+names_are (note ∷ notes) lost = ap (λ (xs : List LetterId). note.id ∷ xs) (names_are notes lost)
+
+-- the first of some letters and of one more
+taken_of_one : (k : ℕ) (x : LetterId) → (take k (x ∷ []) ≡ []) ⊎ (take k (x ∷ []) ≡ x ∷ [])
+taken_of_one zero x = inl refl
+taken_of_one (suc k) x = inr (ap (λ (xs : List LetterId). x ∷ xs) (nothing k))
+  where
+    nothing : (k : ℕ) → take k ([] : List LetterId) ≡ []
+    nothing zero = refl
+    nothing (suc k) = refl
+
+-- what is taken of the first list is taken of both
+taken_of_first : (k : ℕ) (xs ys : List LetterId) → (many : ℕ) × (take many (xs ++ ys) ≡ take k xs)
+taken_of_first zero xs ys = (0, refl)
+taken_of_first (suc k) [] ys = (0, refl)
+taken_of_first (suc k) (x ∷ xs) ys = let r = taken_of_first k xs ys in (suc r.0, ap (λ (zs : List LetterId). x ∷ zs) r.1)
+
+-- and what is taken of the second, behind all of the first
+taken_of_second : (k : ℕ) (xs ys : List LetterId) → (many : ℕ) × (take many (xs ++ ys) ≡ xs ++ take k ys)
+taken_of_second k [] ys = (k, refl)
+taken_of_second k (x ∷ xs) ys = let r = taken_of_second k xs ys in (suc r.0, ap (λ (zs : List LetterId). x ∷ zs) r.1)
+
+module _ (p : Program) (n mask : ℕ) (F : List Event) where
+  -- certificates of these letters, and then of those
+  certified_both : (xs ys : List LetterId) (a b : List ℕ) → AreCertified p n mask F xs a → AreCertified p n mask F ys b → AreCertified p n mask F (xs ++ ys) (a ++ b)
+  certified_both xs ys a b h none =
+      subst (λ (zs : List LetterId). AreCertified p n mask F zs (a ++ [])) (sym (append-nil xs)) (subst (λ (c : List ℕ). AreCertified p n mask F xs c) (sym (append-nil a)) h)
+  certified_both xs ys a b h (more {letters = letters} {text = text} letter w k c) =
+      subst (λ (zs : List LetterId). AreCertified p n mask F zs (a ++ (text ++ certificate w))) (append_assoc xs letters (letter ∷ []))
+      (subst (λ (d : List ℕ). AreCertified p n mask F ((xs ++ letters) ++ letter ∷ []) d) (append_assoc a text (certificate w))
+      (more letter w (certified_both xs letters a text h k) c))
+
+  module _ (before mid after : Option (List ℕ)) (was at now : ℕ) where
+    given_both : (xs ys : List LetterId) → Given p n mask F xs before mid was at → Given p n mask F ys mid after at now → Given p n mask F (xs ++ ys) before after was now
+    given_both xs ys g h = record {
+      text = g.text ++ h.text;
+      certified = certified_both xs ys g.text h.text g.certified h.certified;
+      given = Appends-trans before mid after g.text h.text g.given h.given;
+      still = h.still ∙ g.still;
+    }
+
+    part_both : (x y : List ℕ) → Appends before mid x → AppendsPart mid after y → AppendsPart before after (x ++ y)
+    part_both x y g h =
+        let all : x ++ y ≡ (x ++ take h.0 y) ++ drop h.0 y = ap (λ (xs : List ℕ). x ++ xs) (sym (take-append-drop h.0 y)) ∙ sym (append_assoc x (take h.0 y) (drop h.0 y)) in
+        part_given before after (x ++ y) (x ++ take h.0 y) (drop h.0 y) all (Appends-trans before mid after x (take h.0 y) g h.2)
+
+    given_part : (xs ys : List LetterId) → Given p n mask F xs before mid was at → GivenPart p n mask F ys mid after at now → GivenPart p n mask F (xs ++ ys) before after was now
+    given_part xs ys g h = record {
+      text = g.text ++ h.text;
+      certified = certified_both xs ys g.text h.text g.certified h.certified;
+      given = part_both g.text h.text g.given h.given;
+      rose = subst (λ k. Rose k now) g.still h.rose;
+    }
+
+    -- the certificates of these letters were given, and those of the next ones were tried
+    pub puts_both : (xs ys : List LetterId) (r : Result ⊤ Halt) → Given p n mask F xs before mid was at → PutsCertificates p n mask F ys mid after at now r
+        → PutsCertificates p n mask F (xs ++ ys) before after was now r
+    puts_both xs ys (Ok done) g h = given_both xs ys g h
+    puts_both xs ys (Err Write) g h =
+        let many = taken_of_second h.0 xs ys in
+        (many.0, subst (λ (zs : List LetterId). GivenPart p n mask F zs before after was now) (sym many.1) (given_part xs (take h.0 ys) g h.1))
+    puts_both xs ys (Err Memory) g h =
+        let many = taken_of_second h.0 xs ys in
+        (many.0, subst (λ (zs : List LetterId). Given p n mask F zs before after was now) (sym many.1) (given_both xs (take h.0 ys) g h.1))
+
+  -- no certificate
+  pub given_none : (a : Option (List ℕ)) (k : ℕ) → Given p n mask F [] a a k k
+  given_none None k = record { text = []; certified = none; given = tt; still = refl }
+  given_none (Some xs) k = record { text = []; certified = none; given = sym (append-nil xs); still = refl }
+
+  module _ (before after : Option (List ℕ)) (was now : ℕ) where
+    -- those of the first letters failed, and so do those of all
+    pub puts_first : (xs ys : List LetterId) (r : Result ⊤ Halt) (e : Halt) → r ≡ Err e → PutsCertificates p n mask F xs before after was now r
+        → PutsCertificates p n mask F (xs ++ ys) before after was now (Err e)
+    puts_first xs ys (Ok done) e is h = absurd cc
+    puts_first xs ys (Err f) e is h = subst (λ (r : Result ⊤ Halt). PutsCertificates p n mask F (xs ++ ys) before after was now r) is (by f h)
+      where
+        by : (f : Halt) → PutsCertificates p n mask F xs before after was now (Err f) → PutsCertificates p n mask F (xs ++ ys) before after was now (Err f)
+        by Write h =
+            let many = taken_of_first h.0 xs ys in
+            (many.0, subst (λ (zs : List LetterId). GivenPart p n mask F zs before after was now) (sym many.1) h.1)
+        by Memory h =
+            let many = taken_of_first h.0 xs ys in
+            (many.0, subst (λ (zs : List LetterId). Given p n mask F zs before after was now) (sym many.1) h.1)
+
+    -- one certificate
+    pub gave_one : (letter : LetterId) (w : Witness) → Certifies p n mask F letter w → (r : Result ⊤ Failed) → r ≡ Ok tt → Prints before after was now (certificate w) r
+        → Given p n mask F (letter ∷ []) before after was now
+    gave_one letter w c (Ok done) is h = record { text = certificate w; certified = more letter w none c; given = h.ok; still = h.cause.still }
+    gave_one letter w c (Err e) is h = absurd cc
+
+    pub gave_part : (letter : LetterId) (w : Witness) → Certifies p n mask F letter w → (r : Result ⊤ Failed) (e : Failed) → r ≡ Err e → Prints before after was now (certificate w) r
+        → (many : ℕ) × GivenPart p n mask F (take many (letter ∷ [])) before after was now
+    gave_part letter w c (Err f) e is h = (1, record { text = certificate w; certified = more letter w none c; given = h.err; rose = h.cause.rose })
+    gave_part letter w c (Ok done) e is h = absurd cc
+
+    -- the command halted
+    pub told_halted : (letters : List LetterId) (halt : Halt) (status : Status) → PutsCertificates p n mask F letters before after was now (Err halt)
+        → (halt ≡ Write → status ≡ statuses.WriteFault) → (halt ≡ Memory → status ≡ statuses.WantOfMemory) → Told (AreCertificates p n mask F letters) before after was now status
+    told_halted letters Write status h write memory =
+        record { work = Short h.1.text; is = (h.0, h.1.certified); tells = inl (write refl, h.1.rose, h.1.given) }
+    told_halted letters Memory status h write memory =
+        record { work = Short h.1.text; is = (h.0, h.1.certified); tells = inr (memory refl, h.1.still, h.1.given) }
+
+  -- all certificates were given, and their number was tried
+  module _ (before mid after : Option (List ℕ)) (was at now : ℕ) (letters : List LetterId) (status : Status) (g : Given p n mask F letters before mid was at) where
+    pub told_all : (r : Result ⊤ Failed) → r ≡ Ok tt → Prints mid after at now (certificates_line (length letters)) r → status ≡ statuses.Done
+        → Told (AreCertificates p n mask F letters) before after was now status
+    told_all (Ok done) is h e = record {
+      work = Whole (g.text ++ certificates_line (length letters));
+      is = (g.text, g.certified, refl);
+      tells = inr (e, h.cause.still ∙ g.still, Appends-trans before mid after g.text (certificates_line (length letters)) g.given h.ok);
+    }
+    told_all (Err f) is h e = absurd cc
+
+    pub told_part : (r : Result ⊤ Failed) (f : Failed) → r ≡ Err f → Prints mid after at now (certificates_line (length letters)) r → status ≡ statuses.WriteFault
+        → Told (AreCertificates p n mask F letters) before after was now status
+    told_part (Err k) f is h e = record {
+      work = Whole (g.text ++ certificates_line (length letters));
+      is = (g.text, g.certified, refl);
+      tells = inl (e, subst (λ k. Rose k now) g.still h.cause.rose, part_both before mid after was at now g.text (certificates_line (length letters)) g.given h.err);
+    }
+    told_part (Ok done) f is h e = absurd cc

@@ -1,0 +1,84 @@
+-- The command `upgrade`.
+use Rattle.std.proofs.Common.{◌≡◌, ◌≤◌, ℕ, List, [], ◌∷◌, length, Bool, true, false, Option, None, Some, Ok, IfSome, IsSome, refl, sym, ap, ◌∙◌, subst, inl, inr}
+use Rattle.std.specs.FinMap.{insert}
+use Rattle.nm_outside.specs.Files.{Files}
+use Rattle.trace_file.specs.Content.{Content}
+use Rattle.trace_file.specs.Bytes.{spelling}
+use Rattle.trace_file.specs.Outcomes.{IsSpelling}
+use Rattle.nm_top.specs.declared.status.Status.{Status}
+use Rattle.nm_top.specs.declared.status.Status.TheVariants as statuses
+use Rattle.nm_top.specs.Commands.{Command, Upgrade}
+use Rattle.nm_top.specs.Replies.{Reply, reply, KeepsOthers}
+use Rattle.nm_top.specs.Demands.{TraceText, HasTrace, trace_file, Admits}
+use Rattle.nm_top.specs.Upgrades.{upgraded}
+use Rattle.nm_top.specs.Answers.{CommandAnswer, IsBroken, IsEnough}
+use Rattle.nm_top.specs.private.Works.{Work, Whole, Refusing, Short, Broken, Works, Counts, IsWorkOf, Outside, outside, Carries, is_absence, is_fault, is_broken, work_status}
+use Rattle.nm_top.specs.private.Upgraded.{IsUpgradeWork, HasUpgraded}
+use Rattle.nm_top.proofs.FileLaws.{held_more, same_trace}
+use Rattle.nm_top.proofs.CarryLaws.{nothing_short}
+use Rattle.nm_top.proofs.RecordLaws.{still_at}
+
+module _ (trace new : List ℕ) (t : Content) where
+  abbrev command : Command
+  command = Upgrade trace new
+
+  -- what was written is an answer
+  upgrade_works : (F G : Option Files) (work : Work) → IfSome F (λ held. HasTrace held trace t) → IsUpgradeWork t new F G work
+      → IfSome F (λ held. Works (CommandAnswer command held) (IsBroken command held) G work)
+  upgrade_works None G work has is = tt
+  upgrade_works (Some held) G (Whole text) has is = (
+    insert held new (spelling (upgraded t)),
+    is.1,
+    inl (inr (inr (
+      held_more held (trace_file trace) (λ bytes. IsSpelling t bytes) (Admits (TraceText trace) held) (λ bytes r. (t, r)) has,
+      (text, insert held new (spelling (upgraded t)), record { content = t; has_trace = has; is = is.0; leaves = refl }, refl),
+    ))),
+  )
+  upgrade_works (Some held) G (Short text) has is =
+      (held, is.1, subst (λ (u : List ℕ). CommandAnswer command held (reply statuses.WantOfMemory u held)) (sym is.0) (nothing_short command held))
+  upgrade_works (Some held) G Broken has (inl is) = (held, is, inl refl)
+  upgrade_works (Some held) G Broken has (inr is) = (insert held new _, is.1, inr (record { content = t; has_trace = has; bytes = is.0; leaves = refl }))
+  upgrade_works (Some held) G (Refusing r) has is = absurd is
+
+  upgrade_is_work : (F G : Option Files) (work : Work) → IsUpgradeWork t new F G work
+      → IsWorkOf command work × (is_absence (work_status work) ≡ false) × (is_fault (work_status work) ≡ false)
+  upgrade_is_work F G (Whole text) is = (tt, refl, refl)
+  upgrade_is_work F G (Short text) is = (is.0, refl, refl)
+  upgrade_is_work F G Broken is = (tt, refl, refl)
+  upgrade_is_work F G (Refusing r) is = absurd is
+
+  upgrade_keeps : (F G : Option Files) (work : Work) → IsUpgradeWork t new F G work → KeepsOthers (Some new) F G
+  upgrade_keeps F G (Whole text) is = inr (spelling (upgraded t), is.1)
+  upgrade_keeps F G (Short text) is = inl is.1
+  upgrade_keeps F G Broken (inl is) = inl is
+  upgrade_keeps F G Broken (inr is) = inr (_, is.1)
+  upgrade_keeps F G (Refusing r) is = absurd is
+
+  upgrade_sure : (F : Option Files) (room : Option ℕ) (broken : Bool) → IfSome F (λ held. HasTrace held trace t)
+      → ((k : ℕ) → IsSome F → room ≡ Some k → length (spelling (upgraded t)) ≤ k → broken ≡ false)
+      → IfSome F (λ held. (k : ℕ) → room ≡ Some k → IsEnough command held k → broken ≡ false)
+  upgrade_sure None room broken has sure = tt
+  upgrade_sure (Some held) room broken has sure = λ k is fits.
+      let same = same_trace held trace fits.content t fits.has_trace has in
+      sure k tt is (subst (λ (u : Content). length (spelling (upgraded u)) ≤ k) same fits.enough)
+
+  -- what its file holds was read, and it was written and told
+  pub wrote : {X : Type 0} (Q : List ℕ → Type 0) (x : X) (before mid after : Outside) (status : Status) → IfSome before.files (λ held. HasTrace held trace t)
+      → Counts {X = X} Q before.absents mid.absents before.reads mid.reads (Ok x) → mid.files ≡ before.files → mid.writes ≡ before.writes → mid.room ≡ before.room
+      → mid.given ≡ before.given → mid.faults ≡ before.faults → HasUpgraded t new mid after status → Carries command before after status
+  wrote Q x before mid after status has counts files writes room given faults made =
+      let h = subst (λ (o : Outside). HasUpgraded t new o after status) moved made in
+      let k = upgrade_is_work before.files after.files h.work h.is in
+      record {
+        work = h.work;
+        works = upgrade_works before.files after.files h.work has h.is;
+        keeps = upgrade_keeps before.files after.files h.work h.is;
+        is_work = k.0;
+        absent = still_at (is_absence (work_status h.work)) before.absents mid.absents after.absents k.1 counts.absent h.same_absents;
+        failed = still_at (is_fault (work_status h.work)) before.reads mid.reads after.reads k.2 counts.failed h.same_reads;
+        writes = record { failed = h.failed; sure = upgrade_sure before.files before.room (is_broken h.work) has h.sure };
+        tells = h.tells;
+      }
+    where
+      moved : mid ≡ outside before.files mid.absents mid.reads before.writes before.room before.given before.faults
+      moved = λ i. outside (files i) mid.absents mid.reads (writes i) (room i) (given i) (faults i)
