@@ -2,6 +2,7 @@ pub mod EarlierFacts
 pub mod EntryFacts
 pub mod KeptFacts
 pub mod LawFacts
+pub mod ListingFacts
 pub mod LookupFacts
 pub mod MakingFacts
 pub mod QueryFacts
