@@ -1,3 +1,4 @@
+pub mod ComparingFacts
 pub mod EarlierFacts
 pub mod EntryFacts
 pub mod KeptFacts

@@ -7,7 +7,7 @@ ghost use Rattle.nm_base.specs.declared.letter.AcceptNote.{AcceptNote};
 ghost use Rattle.nm_base.specs.declared.letter.LetterId.{LetterId};
 ghost use Rattle.cut_witness.specs.Comparisons.{trace_entries};
 ghost use Rattle.cut_witness.specs.declared.lookups.NoteKey.{NoteKey};
-ghost use Rattle.cut_witness.specs.private.Lookups.{key_of, same_key, has_note, has_lost, has, Holds, FindsFirst};
+ghost use Rattle.cut_witness.specs.private.Lookups.{key_of, same_key, has_note, has_lost, has, Holds, FindsFirst, FindsLacking};
 
 use indexmap::IndexSet;
 use nm_base::{AcceptNote, LetterId, ProcNo, WantOfMemory};
@@ -34,7 +34,7 @@ fn key_of(note: &AcceptNote) -> NoteKey
 
 /// A set of entries.
 #[derive(Drop)]
-pub struct EntrySet {
+struct EntrySet {
     noted: IndexSet<NoteKey>,
     lost: IndexSet<LetterId>,
 }
@@ -49,7 +49,7 @@ impl Model for EntrySet {
 
 impl EntrySet {
     /// The set of these entries.
-    pub fn of(alloc: Global, notes: &[AcceptNote], lost: &[LetterId]) -> Result<EntrySet, WantOfMemory>
+    fn of(alloc: Global, notes: &[AcceptNote], lost: &[LetterId]) -> Result<EntrySet, WantOfMemory>
         ensures { IfOk result (λ sets. Holds sets notes.now lost.now) }
     {
         let mut sets = EntrySet::empty(alloc);
@@ -144,11 +144,26 @@ fn first_lost(lost: &[LetterId], sets: &EntrySet) -> Option<LetterId>
 }
 
 /// The letter of the first entry that the set lacks.
-pub fn first_lacking(notes: &[AcceptNote], lost: &[LetterId], sets: &EntrySet) -> Option<LetterId>
+fn first_outside(notes: &[AcceptNote], lost: &[LetterId], sets: &EntrySet) -> Option<LetterId>
     ensures { FindsFirst (λ x. has sets.now x ≡ false) (trace_entries notes.now lost.now) result }
 {
     match first_note(notes, sets) {
         Some(id) => Some(id),
         None => first_lost(lost, sets),
     }
+}
+
+/// The letter of the first entry that isn't one of the others.
+pub fn first_lacking(
+    alloc: Global,
+    notes: &[AcceptNote],
+    lost: &[LetterId],
+    other_notes: &[AcceptNote],
+    other_lost: &[LetterId],
+) -> Result<Option<LetterId>, WantOfMemory>
+    ensures { IfOk result (FindsLacking (trace_entries notes.now lost.now)
+        (trace_entries other_notes.now other_lost.now)) }
+{
+    let sets = EntrySet::of(alloc, other_notes, other_lost)?;
+    Ok(first_outside(notes, lost, &sets))
 }

@@ -55,3 +55,8 @@ pub record Holds (sets : Sets) (notes : List AcceptNote) (lost : List LetterId) 
 abbrev pub FindsFirst : (Entry → Type 0) → List Entry → Option LetterId → Type 0
 FindsFirst P xs None = (x : Entry) → Contains xs x → P x → ⊥
 FindsFirst P xs (Some id) = FirstNames P xs id
+
+-- the letter of the first entry of xs that ys lacks, if ys lacks one
+abbrev pub FindsLacking : List Entry → List Entry → Option LetterId → Type 0
+FindsLacking xs ys None = (x : Entry) → Contains xs x → Contains ys x
+FindsLacking xs ys (Some id) = FirstNames (λ x. Contains ys x → ⊥) xs id

@@ -1,8 +1,6 @@
-use Rattle.cut_witness.proofs.LookupFacts.{in_first_note, after_notes}
+use Rattle.cut_witness.specs.Comparisons.{trace_entries}
+use Rattle.cut_witness.proofs.ComparingFacts.{lacking_from}
 use Rattle.cut_witness.proofs.lookups.first_lacking.Goals as goal
 
-pub returns-in-Some : goal.returns-in-Some
-returns-in-Some c = in_first_note c.args.sets.now c.args.notes.now c.args.lost.now c.in-Some.id c.in-Some.ensures
-
-pub returns-in-None : goal.returns-in-None
-returns-in-None c = after_notes c.args.sets.now c.args.notes.now c.args.lost.now c.in-None.ensures c.first_lost.result c.first_lost.ensures
+pub returns : goal.returns
+returns c = lacking_from c.in_ok-sets.ensures (trace_entries c.args.notes.now c.args.lost.now) c.first_outside.result c.first_outside.ensures
