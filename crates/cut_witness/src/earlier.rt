@@ -42,7 +42,7 @@ fn posted_at(e: &Event, id: LetterId) -> Option<Posted>
     }
 }
 
-fn name_at(e: &Event) -> Option<LetterId>
+pub fn name_at(e: &Event) -> Option<LetterId>
     ensures { result ≡ name_in (letter_of e.now) }
 {
     match e.kind {

@@ -90,7 +90,7 @@ fn turn_of(e: &Event) -> WitnessTurn
     }
 }
 
-fn taken_at(e: &Event) -> Option<LetterId>
+pub fn taken_at(e: &Event) -> Option<LetterId>
     ensures { result ≡ taken_of e.now }
 {
     match e.kind {

@@ -3,15 +3,19 @@
 #![tactic(auto)]
 
 mod certificates;
+mod comparing;
 mod comparisons;
 mod earlier;
 mod kept;
 pub mod laws;
+mod listing;
+mod lookups;
 mod making;
 mod query;
 #[cfg(test)]
 mod tests;
 
 pub use certificates::{Witness, WitnessTurn};
+pub use comparing::compare;
 pub use comparisons::Compared;
 pub use making::witness;

@@ -53,7 +53,7 @@ pub fn witness(
 }
 
 /// What is found of the letter. None where it isn't logged.
-fn find(events: &EventList, mask: u32, id: LetterId) -> Option<Found>
+pub fn find(events: &EventList, mask: u32, id: LetterId) -> Option<Found>
     requires { Sound mask events.now.events }
     ensures { TellsFound mask events.now.events id result }
 {
