@@ -5,6 +5,7 @@
 
 mod cause;
 mod certificates;
+pub mod laws;
 mod one_process;
 mod progress;
 mod put;
