@@ -12,14 +12,16 @@ use Rattle.c_compile.specs.StmtCode.{program_code}
 use Rattle.c_process.specs.Shown.{played_after, look_after, line_after, output_after}
 use Rattle.c_process.proofs.Compiled.{compiled_is_code}
 use Rattle.event_list.specs.declared.Event.{Event}
+use Rattle.event_list.specs.Cuts.{cut_list}
 use Rattle.event_list.specs.Events.{entries, count, messages, letters, taken, taken_of, letter_named}
 use Rattle.event_list.specs.Runs.{Sound}
 use Rattle.event_list.specs.Sameness.{SameEntries}
 use Rattle.event_list.specs.Traces.{Trace, IsReplay, Agrees, waiting}
 use Rattle.event_list.specs.Laws.{IsRecorded}
+use Rattle.event_list.proofs.CutRuns.{cut_runs}
 use Rattle.event_list.proofs.Members.{filter_map_agree}
 use Rattle.event_list.proofs.MessageFacts.{messages_part}
-use Rattle.event_list.proofs.PrintFacts.{length_same, sent_same, taken_same, waiting_same, letters_same}
+use Rattle.event_list.proofs.PrintFacts.{length_same, sent_same, taken_same, waiting_same, letters_same, replay_cut}
 use Rattle.event_list.proofs.Projections.{IsPart, accepts_part, meaning_same, taken_in_list}
 use Rattle.event_list.proofs.ReplayPrefix.{replay_prefix, replay_is_part}
 use Rattle.event_list.proofs.RunsSound.{runs_sound}
@@ -61,6 +63,28 @@ module _ (program : Program) (n : ℕ) where
       let events : k + (m - k) ≡ m = omega (arith, le) in
       (grows.0, grows.1 ∙ ap (λ ms. (play set ms (k + (m - k))).state.output) e ∙ ap (λ j. (play set all j).state.output) events)
 
+  -- ---- the same print
+
+  block_same : {M N : ℕ} (E F : List Event) → Sound M E → Sound N F → SameEntries F E → (p : ℕ) → block_of program n F p ≡ block_of program n E p
+  block_same E F g f same p =
+      let events : count F p ≡ count E p = ap length (same.same p) in
+      ap (λ ms. block p (look_after program n p ms (count F p)) (line_after program n p ms (count F p)) (count F p) (output_after program n p ms (count F p))) (letters_same same f g p)
+      ∙ ap (λ k. block p (look_after program n p (messages E p) k) (line_after program n p (messages E p) k) k (output_after program n p (messages E p) k)) events
+
+  mapped_same : {A : Type 0} (f g : A → List ℕ) → ((x : A) → f x ≡ g x) → (xs : List A) → flat_map f xs ≡ flat_map g xs
+  mapped_same {A = A} f g same xs = ap (λ (h : A → List ℕ). flat_map h xs) (λ i x. same x i)
+
+  -- lists with the same entries are printed alike
+  pub printed_same : {M N : ℕ} (E F : List Event) → Sound M E → Sound N F → SameEntries F E → blocks program n F ≡ blocks program n E
+  printed_same E F g f same =
+      let each = mapped_same (block_of program n F) (block_of program n E) (block_same E F g f same) (range_with_len 0 n) in
+      let events = length_same same in
+      let sent = sent_same same in
+      let accepted = taken_same same in
+      let waits = waiting_same same f g in
+      let end : summary_of F ≡ summary_of E = λ i. summary (events i) (sent i) (accepted i) (waits i) in
+      λ i. each i ++ end i
+
   pub follows : (T : Trace) (E R : List Event) → IsRecorded (script_of program n) T E → IsReplay (script_of program n) T R → Follows program n E R
   follows T E R h replay =
       let s = script_of program n in
@@ -76,29 +100,9 @@ module _ (program : Program) (n : ℕ) where
         output = λ p.
             let m = messages_part r g part p in
             output_front p (messages R p) (messages E p) m.0 (count R p) (count E p) m.1 (prefix.1.is_cut p);
+        printed = printed_same (cut_list (count R) E) R (runs_sound s h.lawful (cut_runs s h.lawful T.mask (count R) h.run prefix.1.closed)) r
+            (replay_cut s h.lawful T E R h.run h.trace replay);
       }
-
-  -- ---- the same print
-
-  block_same : {M N : ℕ} (E F : List Event) → Sound M E → Sound N F → SameEntries F E → (p : ℕ) → block_of program n F p ≡ block_of program n E p
-  block_same E F g f same p =
-      let events : count F p ≡ count E p = ap length (same.same p) in
-      ap (λ ms. block p (look_after program n p ms (count F p)) (line_after program n p ms (count F p)) (count F p) (output_after program n p ms (count F p))) (letters_same same f g p)
-      ∙ ap (λ k. block p (look_after program n p (messages E p) k) (line_after program n p (messages E p) k) k (output_after program n p (messages E p) k)) events
-
-  mapped_same : {A : Type 0} (f g : A → List ℕ) → ((x : A) → f x ≡ g x) → (xs : List A) → flat_map f xs ≡ flat_map g xs
-  mapped_same f g same xs = ap (λ (h : A → List ℕ). flat_map h xs) (λ i x. same x i)
-
-  -- lists with the same entries are printed alike
-  pub printed_same : {M N : ℕ} (E F : List Event) → Sound M E → Sound N F → SameEntries F E → blocks program n F ≡ blocks program n E
-  printed_same E F g f same =
-      let each = mapped_same (block_of program n F) (block_of program n E) (block_same E F g f same) (range_with_len 0 n) in
-      let events = length_same same in
-      let sent = sent_same same in
-      let accepted = taken_same same in
-      let waits = waiting_same same f g in
-      let end : summary_of F ≡ summary_of E = λ i. summary (events i) (sent i) (accepted i) (waits i) in
-      λ i. each i ++ end i
 
   pub full : (T : Trace) (E F : List Event) → IsRecorded (script_of program n) T E → IsReplay (script_of program n) T F → ((p : ℕ) → count F p ≡ T.counts p)
       → blocks program n F ≡ blocks program n E

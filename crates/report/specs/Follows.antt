@@ -6,6 +6,7 @@ use Rattle.c_tree.specs.Play.{Played, script_of}
 use Rattle.event_list.specs.declared.Event.{Event}
 use Rattle.event_list.specs.Events.{entries, count, messages, letter_named, taken}
 use Rattle.event_list.specs.Order.{IsConsistent}
+use Rattle.event_list.specs.Cuts.{cut_list}
 use Rattle.event_list.specs.Traces.{Trace, IsReplay, Agrees}
 use Rattle.event_list.specs.Laws.{IsRecorded}
 use Rattle.processes.specs.declared.proc.Look.{Look}
@@ -50,6 +51,8 @@ pub record Follows (program : Program) (n : ℕ) (E R : List Event) : Type 0 whe
   -- after each number of events that it made in R it stood there as it stood in E
   pub stands : (p k : ℕ) → k ≤ count R p → stood_after program n R p k ≡ stood_after program n E p k
   pub output : (p : ℕ) → IsFront (output_in program n R p) (output_in program n E p)
+  -- R is printed as this cut of E is
+  pub printed : blocks program n R ≡ blocks program n (cut_list (count R) E)
 
 -- each replay under the trace of a recorded run follows this run
 abbrev pub FollowsLaw : Type 0
