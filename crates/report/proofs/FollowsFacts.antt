@@ -1,5 +1,5 @@
 -- A replay does what was recorded, state by state, and prints a front of it.
-use Rattle.std.proofs.Common.{◌≡◌, ℕ, ◌+◌, ◌-◌, ◌≤◌, List, ◌++◌, length, take, drop, refl, sym, ap, ◌∙◌, subst, arith}
+use Rattle.std.proofs.Common.{◌≡◌, ℕ, ◌+◌, ◌-◌, ◌≤◌, List, ◌++◌, length, take, drop, sym, ap, ◌∙◌, subst, arith}
 use Rattle.std.specs.Prelude.{Contains, filter_map}
 use Rattle.std.specs.List.{flat_map, range_with_len}
 use Rattle.std.proofs.lemmas.List.{take-append-drop, take-append-le}
@@ -16,7 +16,7 @@ use Rattle.event_list.specs.Cuts.{cut_list}
 use Rattle.event_list.specs.Events.{entries, count, messages, letters, taken, taken_of, letter_named}
 use Rattle.event_list.specs.Runs.{Sound}
 use Rattle.event_list.specs.Sameness.{SameEntries}
-use Rattle.event_list.specs.Traces.{Trace, IsReplay, Agrees, waiting}
+use Rattle.event_list.specs.Traces.{Trace, IsReplay, Agrees}
 use Rattle.event_list.specs.Laws.{IsRecorded}
 use Rattle.event_list.proofs.CutRuns.{cut_runs}
 use Rattle.event_list.proofs.Members.{filter_map_agree}
@@ -26,8 +26,8 @@ use Rattle.event_list.proofs.Projections.{IsPart, accepts_part, meaning_same, ta
 use Rattle.event_list.proofs.ReplayPrefix.{replay_prefix, replay_is_part}
 use Rattle.event_list.proofs.RunsSound.{runs_sound}
 use Rattle.event_list.proofs.SameFacts.{full_replay}
-use Rattle.report.specs.Follows.{IsFront, letters_after, stood_after, output_in, Follows}
-use Rattle.report.specs.Runs.{block_of, all_blocks, summary_of, blocks}
+use Rattle.report.specs.Follows.{IsFront, letters_after, stood_after, Follows}
+use Rattle.report.specs.Runs.{block_of, summary_of, blocks}
 use Rattle.report.specs.Texts.{block, summary}
 use Rattle.report.proofs.Growing.{output_grows}
 

@@ -1,5 +1,5 @@
 -- The output of a process grows: more events and more letters only add to it.
-use Rattle.std.proofs.Common.{◌≡◌, ℕ, zero, suc, ◌+◌, ◌<◌, Bool, true, false, List, [], ◌∷◌, ◌++◌, length, take, Option, Some, None, Result, Ok, Err, refl, sym, ap, ◌∙◌, subst, arith, append_assoc, append-nil}
+use Rattle.std.proofs.Common.{◌≡◌, ℕ, zero, suc, ◌+◌, Bool, true, false, List, [], ◌∷◌, ◌++◌, length, take, Option, Some, None, Result, Ok, Err, refl, sym, ap, ◌∙◌, subst, arith, append_assoc, append-nil}
 use Rattle.std.specs.Prelude.{◌&&◌, nat_lt, nat_le, slice_get, slice_index}
 use Rattle.nm_base.specs.declared.kind.Kind.{Kind}
 use Rattle.nm_base.specs.declared.kind.Kind.TheVariants.{Line, Sent, Printed, Ended, Faulted}
@@ -18,7 +18,7 @@ use Rattle.stack_code.specs.declared.instr.Instr.{Instr}
 use Rattle.stack_code.specs.declared.instr.Instr.TheVariants as instr
 use Rattle.stack_code.specs.Code.{Placed, FunctionCode, Code, steps_of}
 use Rattle.stack_code.specs.Laws.{more}
-use Rattle.stack_code.specs.Machine.{Caller, Control, top, below, popped, next, push, local_place, param_array, new_frame, open_frame, called, returned, conversions, text_at, act, act_if_any, shown, step, exec, started_by, first_data, run_code}
+use Rattle.stack_code.specs.Machine.{Caller, Control, top, below, popped, next, push, local_place, param_array, new_frame, open_frame, called, returned, conversions, text_at, act, act_if_any, shown, step, exec, started_by, first_data}
 use Rattle.stack_code.proofs.Law.{stopped_stays, runs_on}
 use Rattle.c_compile.specs.Correct.{CodeStandsFor}
 use Rattle.report.specs.Follows.{IsFront}
