@@ -6,7 +6,7 @@ use Rattle.std.specs.List.{flat_map}
 use Rattle.std.proofs.lemmas.List.{take-append-drop, take_more}
 use Rattle.nm_outside.specs.declared.cabinet.Failed.{Failed}
 use Rattle.report.specs.Printing.{Prints}
-use Rattle.report.proofs.Pieces.{prints_more, failed_first, still_failed}
+use Rattle.report.proofs.Pieces.{prints_more, failed_first}
 
 pub flat_append : {A : Type 0} (f : A → List ℕ) (xs ys : List A) → flat_map f (xs ++ ys) ≡ flat_map f xs ++ flat_map f ys
 flat_append f [] ys = refl

@@ -1,5 +1,5 @@
 -- What a process of the world shows is what the program says.
-use Rattle.std.proofs.Common.{◌≡◌, ℕ, zero, suc, ◌+◌, ◌<◌, List, [], ◌∷◌, ◌++◌, length, Option, Some, Result, Ok, Err, refl, sym, ap, ◌∙◌, subst, inl, inr, arith, append_assoc, append-nil, add-one}
+use Rattle.std.proofs.Common.{◌≡◌, ℕ, zero, suc, ◌+◌, ◌<◌, List, [], ◌∷◌, ◌++◌, length, Option, Some, Result, Ok, Err, sym, ap, ◌∙◌, subst, inl, inr, arith, append_assoc, append-nil, add-one}
 use Rattle.std.specs.Prelude.{slice_get, ⊤, ◌⊎◌}
 use Rattle.std.specs.Result.{IsErr}
 use Rattle.std.specs.List.{flat_map, range_with_len}

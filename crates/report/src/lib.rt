@@ -5,6 +5,7 @@
 
 mod cause;
 mod certificates;
+mod laws;
 mod one_process;
 mod progress;
 mod put;
@@ -17,6 +18,7 @@ mod traces;
 
 pub use cause::Refusal;
 pub use certificates::{certificate, certificates_line};
+pub use laws::{follows_law, full_law};
 pub use one_process::block;
 pub use refusals::refusal;
 pub use runs::blocks;
