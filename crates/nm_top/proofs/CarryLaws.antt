@@ -1,5 +1,5 @@
 -- What a command that was carried out answers.
-use Rattle.std.proofs.Common.{◌≡◌, ◌≢◌, ◌⊎◌, ℕ, zero, suc, List, [], Bool, true, false, Option, None, Some, Ok, Err, IfSome, MatchOption, inl, inr, refl, sym, ap, ◌∙◌, subst, arith, length}
+use Rattle.std.proofs.Common.{◌≡◌, ◌≢◌, ◌⊎◌, ℕ, zero, suc, List, [], Bool, true, false, Option, None, Some, Ok, Err, IfSome, MatchOption, inl, inr, refl, sym, ap, ◌∙◌, subst, arith, append-nil}
 use Rattle.std.specs.Prelude.{take}
 use Rattle.std.proofs.lemmas.Option.{IfSome_then}
 use Rattle.std.specs.Io.KnownBytes.{Appends}
@@ -17,8 +17,8 @@ use Rattle.nm_top.specs.Commands.{Command, command_of}
 use Rattle.nm_top.specs.Statuses.{status_of, IsOf}
 use Rattle.nm_top.specs.Lines.{IsLineOf, MayStopAt, PrintsLine}
 use Rattle.nm_top.specs.Replies.{Reply, reply, Says, Answers, CutShort, CutOff, Breaks, KeepsOthers}
-use Rattle.nm_top.specs.Demands.{IsFetched}
-use Rattle.nm_top.specs.Answers.{CommandAnswer, Answer, Fetches, IsBroken, IsEnough, MayBreak, Suffices, demands_of, written_of, written_by}
+use Rattle.nm_top.specs.Demands.{Demand, IsFetched}
+use Rattle.nm_top.specs.Answers.{CommandAnswer, Demanding, IsDone, Answer, Fetches, IsBroken, IsEnough, MayBreak, Suffices, demands_of, written_of, written_by}
 use Rattle.nm_top.specs.private.Works.{
   Work,
   Whole,
@@ -32,6 +32,8 @@ use Rattle.nm_top.specs.private.Works.{
   is_fault,
   is_broken,
   Counts,
+  Nothing,
+  Tries,
   Tells,
   Outside,
   outside,
@@ -45,6 +47,7 @@ use Rattle.nm_top.specs.private.Works.{
 }
 use Rattle.nm_top.specs.private.Tellings.{IsText, Told}
 use Rattle.nm_top.specs.private.Top.{Does}
+use Rattle.nm_top.proofs.FileLaws.{stops_on}
 use Rattle.nm_top.proofs.DueLaws.{refused_due, owed, complete}
 use Rattle.nm_top.proofs.HeadlineLaws.{says_all}
 
@@ -112,6 +115,22 @@ stopped command before after status stop stops counts short same writes told = r
     kept : (o : Option (List ℕ)) → KeepsOthers o before.files after.files
     kept None = same
     kept (Some name) = inl same
+
+-- what stopped a command at its demands stopped it
+pub command_stops : (command : Command) (F : Option Files) (stop : Stop) → IfSome F (λ held. Stops (Demanding (demands_of command) Nothing held) held stop)
+    → IfSome F (λ held. Stops (CommandAnswer command held) held stop)
+command_stops command F stop h = IfSome_then F h (λ held k. by held stop k)
+  where
+    by : (held : Files) (stop : Stop) → Stops (Demanding (demands_of command) Nothing held) held stop → Stops (CommandAnswer command held) held stop
+    by held (Refused r) k =
+        inl (subst (λ (ds : List Demand). Demanding ds (IsDone command held) held (reply (status_of r) (refusal_line r) held)) (append-nil (demands_of command))
+        (stops_on (demands_of command) [] (IsDone command held) held (Refused r) k))
+    by held Memory k = tt
+
+-- a text, or nothing
+pub told_text : (text : List ℕ) (before after : Option (List ℕ)) (was now : ℕ) (status : Status) → Tries text before after was now status → Told (IsText text) before after was now status
+told_text text before after was now status (inl h) = record { work = Whole text; is = refl; tells = h }
+told_text text before after was now status (inr h) = record { work = Short []; is = refl; tells = h }
 
 -- What a command does with work that wrote no file.
 pub record Bears (command : Command) (files : Option Files) (work : Work) : Type 0 where
@@ -288,10 +307,13 @@ rests false was now b e = b.still
 -- ---- what was told of work that is allowed
 
 -- a part of nothing is nothing
-nothing_part : {before after : Option (List ℕ)} → AppendsPart before after [] → Appends before after []
-nothing_part {before = before} {after = after} part = subst (Appends before after) (take_nothing part.0) part.2
+nothing_part : (before after : Option (List ℕ)) → AppendsPart before after [] → Appends before after []
+nothing_part before after part = subst (Appends before after) (take_nothing part.0) part.2
   where
-    take_nothing : (n : ℕ) → take n ([] : List ℕ) ≡ []
+    nothing : List ℕ
+    nothing = []
+
+    take_nothing : (n : ℕ) → take n nothing ≡ []
     take_nothing zero = refl
     take_nothing (suc n) = refl
 
@@ -326,7 +348,7 @@ module _ (allowed : Files → Reply → Type 0) (broken : Files → Files → Ty
     breaks (Some held) command (Refusing r) ok works count (inl failed) e = inl (short_of (Refusing r) held works.0 works.1 works.2 count failed.2)
     breaks (Some held) command (Short text) ok works count (inl failed) e = inl (short_of (Short text) held works.0 works.1 works.2 count failed.2)
     breaks (Some held) command Broken ok works count (inl failed) e =
-        inr (record { files = works.0; is_broken = works.2; leaves = works.1; printed = nothing_part failed.2 })
+        inr (record { files = works.0; is_broken = works.2; leaves = works.1; printed = nothing_part before after failed.2 })
     breaks (Some held) command Broken ok works count (inr told) e =
         inr (record { files = works.0; is_broken = works.2; leaves = works.1; printed = told.2 })
     breaks (Some held) command (Whole text) ok works count (inr told) e = let k = sym told.0 ∙ e in absurd cc

@@ -40,7 +40,10 @@ taken_of_one : (k : ℕ) (x : LetterId) → (take k (x ∷ []) ≡ []) ⊎ (take
 taken_of_one zero x = inl refl
 taken_of_one (suc k) x = inr (ap (λ (xs : List LetterId). x ∷ xs) (nothing k))
   where
-    nothing : (k : ℕ) → take k ([] : List LetterId) ≡ []
+    no_letters : List LetterId
+    no_letters = []
+
+    nothing : (k : ℕ) → take k no_letters ≡ []
     nothing zero = refl
     nothing (suc k) = refl
 

@@ -123,10 +123,10 @@ module _ (held : Files) (done : Reply → Type 0) (ends : (reply : Reply) → do
   all_met (demand ∷ demands) reply (inr (inr h)) n met = all_met demands reply h.1 n met.1
 
 done_ends : (command : Command) (held : Files) (r : Reply) → IsDone command held r → r.status ≡ Done
-done_ends command held r h = ap (λ (r : Reply). r.status) h.2.2
+done_ends command held r h = ap (λ (r : Reply). r.status) h.3
 
 pub short_ends : (command : Command) (held : Files) (r : Reply) → IsShort command held r → r.status ≡ WantOfMemory
-short_ends command held r h = ap (λ (r : Reply). r.status) h.2.2
+short_ends command held r h = ap (λ (r : Reply). r.status) h.3
 
 -- ---- the answer to words
 

@@ -53,7 +53,7 @@ module _ (held : Files) where
   pub same_trace : (trace : List ℕ) (t u : Content) → HasTrace held trace t → HasTrace held trace u → t ≡ u
   same_trace trace t u a b = let k = one_text (trace_file trace) (λ bytes. IsSpelling t bytes) (λ bytes. IsSpelling u bytes) a b in one_trace t u k.0 k.1 k.2
 
-  one_replay : (program trace : List ℕ) (p q : Program) (t u : Content) → AreReplayed held program trace p t → AreReplayed held program trace q u → (p ≡ q) × (t ≡ u)
+  pub one_replay : (program trace : List ℕ) (p q : Program) (t u : Content) → AreReplayed held program trace p t → AreReplayed held program trace q u → (p ≡ q) × (t ≡ u)
   one_replay program trace p q t u a b =
       let k = one_text (program_file program) (λ text. Reads text p × (t.digest ≡ sha256 text)) (λ text. Reads text q × (u.digest ≡ sha256 text)) a.has_program b.has_program in
       ((only_program k.0).one p q k.1.0 k.2.0, same_trace trace t u a.has_trace b.has_trace)
@@ -71,16 +71,16 @@ module _ (held : Files) where
   reason_refuses (SameProgram program trace) text line why meets = why.differs (same_digest program trace meets.0 why.content why.digest meets.1 why.has)
   reason_refuses (TraceSchedule trace name) text line why meets =
       let bad = why.is_first in
-      let same = same_trace trace meets.0 why.content meets.2.0 why.has_trace in
-      let reads : text_turns why.content.n text ≡ Ok meets.1 = subst (λ (t : Content). text_turns t.n text ≡ Ok meets.1) same meets.2.1 in
+      let same = same_trace trace meets.0 why.content meets.2 why.has_trace in
+      let reads : text_turns why.content.n text ≡ Ok meets.1 = subst (λ (t : Content). text_turns t.n text ≡ Ok meets.1) same meets.3 in
       let e : Err bad.fault ≡ Ok meets.1 = sym bad.is ∙ reads in absurd cc
   reason_refuses (Finishes program trace) text line why meets =
-      let same = one_replay program trace meets.0 why.of_program meets.1 why.content meets.2.0 why.has in
-      let e : true ≡ false = sym meets.2.1 ∙ (same_reached meets.0 why.of_program meets.1 why.content same.0 same.1 ∙ why.below) in absurd cc
+      let same = one_replay program trace meets.0 why.of_program meets.1 why.content meets.2 why.has in
+      let e : true ≡ false = sym meets.3 ∙ (same_reached meets.0 why.of_program meets.1 why.content same.0 same.1 ∙ why.below) in absurd cc
   reason_refuses (Matches program trace) text line why meets =
-      let same = one_replay program trace meets.0 why.of_program meets.1 why.content meets.2.0 why.has in
+      let same = one_replay program trace meets.0 why.of_program meets.1 why.content meets.2 why.has in
       let entries = subst (λ (p : Program). HasEntries why.content.mask why.content.notes why.content.lost (finished p why.content).events) same.0
-          (subst (λ (t : Content). HasEntries t.mask t.notes t.lost (finished meets.0 t).events) same.1 meets.2.1) in
+          (subst (λ (t : Content). HasEntries t.mask t.notes t.lost (finished meets.0 t).events) same.1 meets.3) in
       let e : Differs why.first ≡ Same = one_comparison why.content.mask why.content.notes why.content.lost (finished why.of_program why.content).events (Differs why.first) Same why.is_first entries in
       absurd cc
 

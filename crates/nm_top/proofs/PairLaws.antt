@@ -102,7 +102,7 @@ module _ (held : Files) (trace schedule : List ℕ) (t : Content) (has : HasTrac
 
   bad_for : (line bytes : List ℕ) → Old line bytes → New line bytes
   bad_for line bytes k = (
-    λ a. k.0 (a.1, subst (λ (u : Content). IsSchedule u.n bytes a.1) (same_trace held trace a.0 t a.2.0 has) a.2.1),
+    λ a. k.0 (a.1, subst (λ (u : Content). IsSchedule u.n bytes a.1) (same_trace held trace a.0 t a.2 has) a.3),
     record { content = t; has_trace = has; bad = k.1.0; is_first = k.1.1; is = k.1.2 },
   )
 

@@ -1,6 +1,6 @@
 //! The command `certify`.
 
-ghost use Rattle.std.specs.Prelude.{◌≡◌, ◌×◌, ◌+◌, ◌<◌, ◌^◌, ℕ, [], ◌∷◌, length, map, Contains, true};
+ghost use Rattle.std.specs.Prelude.{◌≡◌, ◌+◌, ◌<◌, ◌^◌, ℕ, [], ◌∷◌, length, map, Contains, true};
 ghost use Rattle.c_tree.specs.declared.program.Program.{Program};
 ghost use Rattle.c_tree.specs.Play.{script_of};
 ghost use Rattle.stack_code.specs.View.{seen_code};

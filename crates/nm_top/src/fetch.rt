@@ -1,6 +1,6 @@
 //! The files that a command demands, and what their texts stand for.
 
-ghost use Rattle.std.specs.Prelude.{◌≡◌, ◌<◌, ◌≤◌, ◌⊎◌, ◌×◌, List, ℕ, [], ◌∷◌, length, Err, IfSome, IfOk, IfErr};
+ghost use Rattle.std.specs.Prelude.{◌≡◌, ◌<◌, ◌≤◌, ◌⊎◌, List, ℕ, [], ◌∷◌, length, Err, IfSome, IfOk, IfErr};
 ghost use Rattle.sha2.specs.Sha256.{sha256};
 ghost use Rattle.nm_base.specs.declared.limits.TheConstants.{MAX_PROCESSES};
 ghost use Rattle.nm_outside.specs.Files.{Files};

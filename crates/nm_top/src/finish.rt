@@ -1,6 +1,6 @@
 //! The command `replay` without a schedule: the replay is finished by round robin.
 
-ghost use Rattle.std.specs.Prelude.{◌≡◌, ◌×◌, ℕ, [], true, slice_index};
+ghost use Rattle.std.specs.Prelude.{◌≡◌, ℕ, [], true, slice_index};
 ghost use Rattle.c_tree.specs.declared.program.Program.{Program};
 ghost use Rattle.stack_code.specs.View.{seen_code};
 ghost use Rattle.event_list.specs.Events.{count};

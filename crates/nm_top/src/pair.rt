@@ -1,6 +1,6 @@
 //! A program and a trace of it.
 
-ghost use Rattle.std.specs.Prelude.{◌≡◌, ◌≢◌, ◌×◌, List, ℕ, IfSome, IfOk, IfErr, OnOk};
+ghost use Rattle.std.specs.Prelude.{◌≡◌, List, ℕ, [], IfSome, IfOk, IfErr, OnOk};
 ghost use Rattle.nm_outside.specs.Files.{Files};
 ghost use Rattle.trace_file.specs.Rules.{IsTrace};
 ghost use Rattle.nm_top.specs.Answers.{pair_demands};

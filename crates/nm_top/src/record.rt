@@ -1,6 +1,6 @@
 //! The command `record`.
 
-ghost use Rattle.std.specs.Prelude.{◌≡◌, ◌×◌, ◌++◌, ℕ, List, Some, length};
+ghost use Rattle.std.specs.Prelude.{◌≡◌, ◌++◌, ℕ, List, Some, length};
 ghost use Rattle.c_tree.specs.declared.program.Program.{Program};
 ghost use Rattle.stack_code.specs.View.{seen_code};
 ghost use Rattle.c_process.specs.Standing.{IsCodeOf};
@@ -17,7 +17,7 @@ ghost use Rattle.nm_top.specs.private.Named.{AreFew};
 ghost use Rattle.nm_top.specs.private.Recorded.{HasRecorded, recorded_work};
 ghost use Rattle.nm_top.specs.private.Works.{Carries, Tells, outside};
 
-use crate::run::{Demanded, demanded};
+use crate::run::{RunInput, demanded};
 use crate::start::{compiled, seats_of};
 use crate::status::Status;
 use crate::tell::tell;
@@ -77,7 +77,7 @@ fn tell_recorded<O: Sink>(
 fn record_code<C: Cabinet, O: Sink>(
     alloc: Global,
     code: &Code,
-    demanded: &Demanded,
+    demanded: &RunInput,
     processes: u8,
     to: Recording<'_>,
     files: &mut C,
@@ -118,7 +118,7 @@ fn record_code<C: Cabinet, O: Sink>(
 // Compiles the program and records it.
 fn record_program<C: Cabinet, O: Sink>(
     alloc: Global,
-    demanded: &Demanded,
+    demanded: &RunInput,
     processes: u8,
     to: Recording<'_>,
     files: &mut C,

@@ -1,6 +1,6 @@
 //! The command `replay` with a schedule.
 
-ghost use Rattle.std.specs.Prelude.{◌≡◌, ◌×◌, ◌+◌, ◌-◌, ◌≤◌, ◌++◌, List, [], length, IfSome, IfOk};
+ghost use Rattle.std.specs.Prelude.{◌≡◌, ◌+◌, ◌-◌, ◌≤◌, ◌++◌, List, [], length, IfSome, IfOk};
 ghost use Rattle.nm_outside.specs.Files.{Files};
 ghost use Rattle.c_tree.specs.declared.program.Program.{Program};
 ghost use Rattle.stack_code.specs.View.{seen_code};
@@ -143,7 +143,7 @@ fn replay_pair<O: Sink>(alloc: Global, pair: &Pair, schedule: &Schedule, out: &m
 
 /// What a replay with a schedule demands.
 #[derive(Drop)]
-pub struct Scheduled {
+pub struct ReplayInput {
     pair: Pair,
     schedule: Schedule,
 }
@@ -155,7 +155,7 @@ fn scheduled<'a, C: Cabinet>(
     trace: &'a str,
     schedule: &'a str,
     files: &mut C,
-) -> Result<Scheduled, Stop<'a>>
+) -> Result<ReplayInput, Stop<'a>>
     ensures gives { IfSome (C.files files.old) (λ held. Gives
         (λ x. AreReplayed held program.now trace.now x.pair.program x.pair.trace
         × HoldsIn held (λ text. IsSchedule x.pair.trace.n text x.schedule) (schedule_file schedule.now))
@@ -173,7 +173,7 @@ fn scheduled<'a, C: Cabinet>(
         Err(stop) => return Err(stop),
     };
     match schedule_in(alloc, files, schedule, pair.trace.n()) {
-        Ok(schedule) => Ok(Scheduled { pair, schedule }),
+        Ok(schedule) => Ok(ReplayInput { pair, schedule }),
         Err(stop) => Err(stop),
     }
 }

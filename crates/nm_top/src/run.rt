@@ -1,6 +1,6 @@
 //! The command `run`.
 
-ghost use Rattle.std.specs.Prelude.{◌≡◌, ◌×◌, IfSome, IfOk};
+ghost use Rattle.std.specs.Prelude.{◌≡◌, IfSome, IfOk};
 ghost use Rattle.sha2.specs.Sha256.{sha256};
 ghost use Rattle.c_tree.specs.declared.program.Program.{Program};
 ghost use Rattle.stack_code.specs.View.{seen_code};
@@ -74,7 +74,7 @@ fn run_program<O: Sink>(
 
 /// What a run demands.
 #[derive(Drop)]
-pub struct Demanded {
+pub struct RunInput {
     pub source: Source,
     pub schedule: Schedule,
 }
@@ -86,7 +86,7 @@ pub fn demanded<'a, C: Cabinet>(
     processes: u8,
     schedule: &'a str,
     files: &mut C,
-) -> Result<Demanded, Stop<'a>>
+) -> Result<RunInput, Stop<'a>>
     requires range { AreFew processes }
     ensures gives { IfSome (C.files files.old) (λ held. Gives
         (λ x. HoldsIn held (λ text. Reads text x.source.program × (x.source.digest ≡ sha256 text))
@@ -105,7 +105,7 @@ pub fn demanded<'a, C: Cabinet>(
         Err(stop) => return Err(stop),
     };
     match schedule_in(alloc, files, schedule, processes) {
-        Ok(schedule) => Ok(Demanded { source, schedule }),
+        Ok(schedule) => Ok(RunInput { source, schedule }),
         Err(stop) => Err(stop),
     }
 }
