@@ -107,15 +107,18 @@ module _ (M : ℕ) (E : List Event) (notes own_notes : List AcceptNote) (lost ow
     pub then_lacked : (id : LetterId) → FindsLacking (trace_entries own_notes own_lost) (trace_entries notes lost) (Some id) → IsCompared M notes lost E (Differs id)
     then_lacked id f =
         let p = place own_kept f.before f.entry f.after f.whole in
-        inr ((λ x c. (has_entries n l x).0 (all x c)), record {
-          before = p.before;
-          entry = f.entry;
-          after = p.after;
-          whole = p.whole;
-          holds = ((has_entries n l f.entry).0 (first_in (λ x. Contains (trace_entries notes lost) x → ⊥) (trace_entries own_notes own_lost) id f), f.holds);
-          none_before = λ x c q. f.none_before x (p.earlier x c q.0.logged) q.1;
-          named = f.named;
-        })
+        inr (
+          (λ x c. (has_entries n l x).0 (all x c)),
+          record {
+            before = p.before;
+            entry = f.entry;
+            after = p.after;
+            whole = p.whole;
+            holds = ((has_entries n l f.entry).0 (first_in (λ x. Contains (trace_entries notes lost) x → ⊥) (trace_entries own_notes own_lost) id f), f.holds);
+            none_before = λ x c q. f.none_before x (p.earlier x c q.0.logged) q.1;
+            named = f.named;
+          },
+        )
 
     pub none_lacked : FindsLacking (trace_entries own_notes own_lost) (trace_entries notes lost) None → (x : Entry) → Contains (trace_entries notes lost) x ↔ IsEntryOf M E x
     none_lacked f x = ((λ c. (has_entries n l x).0 (all x c)), (λ e. f x ((has_entries n l x).1 e)))

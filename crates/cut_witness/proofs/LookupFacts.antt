@@ -118,7 +118,10 @@ module _ {X : Type 0} (test : X → Bool) where
       by true t k ih = let e = some_same y x k in ([], xs, ap (λ z. z ∷ xs) e, ap test (sym e) ∙ t, (λ z c. absurd (empty z c)))
       by false t k ih =
           let r = ih k in (
-            y ∷ r.0, r.1, ap (λ l. y ∷ l) r.2, r.3,
+            y ∷ r.0,
+            r.1,
+            ap (λ l. y ∷ l) r.2,
+            r.3,
             (λ z c. elim (cons_cases y r.0 z c) [ inl e ↦ ap test (sym e) ∙ t | inr o ↦ r.4 z o ]),
           )
 
