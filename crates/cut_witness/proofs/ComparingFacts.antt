@@ -1,15 +1,14 @@
 -- What comes of comparing a trace with a list of events.
-use Rattle.std.proofs.Common.{◌≡◌, ℕ, Bool, true, false, List, [], ◌∷◌, ◌++◌, Option, Some, None, refl, sym, ap, ◌∙◌, subst, inl, inr, arith}
-use Rattle.std.specs.Prelude.{map, Contains, ◌⊎◌, ◌↔◌}
+use Rattle.std.proofs.Common.{◌≡◌, ℕ, true, false, List, [], ◌∷◌, ◌++◌, Option, Some, None, sym, ap, ◌∙◌, subst, inl, inr}
+use Rattle.std.specs.Prelude.{map, Contains, ◌↔◌}
 use Rattle.std.proofs.lemmas.Bool.{cases_Bool, true≢false}
 use Rattle.nm_base.specs.declared.letter.LetterId.{LetterId}
 use Rattle.nm_base.specs.declared.letter.AcceptNote.{AcceptNote}
 use Rattle.event_list.specs.declared.Event.{Event}
-use Rattle.event_list.specs.Traces.{Keeps, nothing, kept, left_out, IsLoggedName, AreNotesOf, AreLostOf, all_notes, waiting}
+use Rattle.event_list.specs.Traces.{Keeps, nothing, kept, left_out, IsLoggedName, AreNotesOf, AreLostOf}
 use Rattle.event_list.proofs.Members.{empty, cons_cases, cons_here, cons_there}
-use Rattle.cut_witness.specs.declared.comparisons.Compared.{Compared}
-use Rattle.cut_witness.specs.declared.comparisons.Compared.TheVariants.{Same, Differs}
-use Rattle.cut_witness.specs.Comparisons.{Entry, Noted, Missed, letter_in, trace_entries, all_entries, IsEntryOf, HasEntries, FirstNames, IsCompared}
+use Rattle.cut_witness.specs.declared.comparisons.Compared.TheVariants.{Differs}
+use Rattle.cut_witness.specs.Comparisons.{Entry, Noted, Missed, letter_in, trace_entries, all_entries, IsEntryOf, IsCompared}
 use Rattle.cut_witness.specs.private.Lookups.{Sets, has, Holds, FindsFirst, FindsLacking}
 use Rattle.cut_witness.proofs.EntryFacts.{note_in, lost_in, in_notes, in_lost, has_entries, first_in}
 use Rattle.cut_witness.proofs.ListingFacts.{keeps_both}
