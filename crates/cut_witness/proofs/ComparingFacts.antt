@@ -1,15 +1,14 @@
 -- What comes of comparing a trace with a list of events.
-use Rattle.std.proofs.Common.{◌≡◌, ℕ, Bool, true, false, List, [], ◌∷◌, ◌++◌, Option, Some, None, refl, sym, ap, ◌∙◌, subst, inl, inr, arith}
-use Rattle.std.specs.Prelude.{map, Contains, ◌⊎◌, ◌↔◌}
+use Rattle.std.proofs.Common.{◌≡◌, ℕ, true, false, List, [], ◌∷◌, ◌++◌, Option, Some, None, sym, ap, ◌∙◌, subst, inl, inr}
+use Rattle.std.specs.Prelude.{map, Contains, ◌↔◌}
 use Rattle.std.proofs.lemmas.Bool.{cases_Bool, true≢false}
 use Rattle.nm_base.specs.declared.letter.LetterId.{LetterId}
 use Rattle.nm_base.specs.declared.letter.AcceptNote.{AcceptNote}
 use Rattle.event_list.specs.declared.Event.{Event}
-use Rattle.event_list.specs.Traces.{Keeps, nothing, kept, left_out, IsLoggedName, AreNotesOf, AreLostOf, all_notes, waiting}
+use Rattle.event_list.specs.Traces.{Keeps, nothing, kept, left_out, IsLoggedName, AreNotesOf, AreLostOf}
 use Rattle.event_list.proofs.Members.{empty, cons_cases, cons_here, cons_there}
-use Rattle.cut_witness.specs.declared.comparisons.Compared.{Compared}
-use Rattle.cut_witness.specs.declared.comparisons.Compared.TheVariants.{Same, Differs}
-use Rattle.cut_witness.specs.Comparisons.{Entry, Noted, Missed, letter_in, trace_entries, all_entries, IsEntryOf, HasEntries, FirstNames, IsCompared}
+use Rattle.cut_witness.specs.declared.comparisons.Compared.TheVariants.{Differs}
+use Rattle.cut_witness.specs.Comparisons.{Entry, Noted, Missed, letter_in, trace_entries, all_entries, IsEntryOf, IsCompared}
 use Rattle.cut_witness.specs.private.Lookups.{Sets, has, Holds, FindsFirst, FindsLacking}
 use Rattle.cut_witness.proofs.EntryFacts.{note_in, lost_in, in_notes, in_lost, has_entries, first_in}
 use Rattle.cut_witness.proofs.ListingFacts.{keeps_both}
@@ -107,15 +106,18 @@ module _ (M : ℕ) (E : List Event) (notes own_notes : List AcceptNote) (lost ow
     pub then_lacked : (id : LetterId) → FindsLacking (trace_entries own_notes own_lost) (trace_entries notes lost) (Some id) → IsCompared M notes lost E (Differs id)
     then_lacked id f =
         let p = place own_kept f.before f.entry f.after f.whole in
-        inr ((λ x c. (has_entries n l x).0 (all x c)), record {
-          before = p.before;
-          entry = f.entry;
-          after = p.after;
-          whole = p.whole;
-          holds = ((has_entries n l f.entry).0 (first_in (λ x. Contains (trace_entries notes lost) x → ⊥) (trace_entries own_notes own_lost) id f), f.holds);
-          none_before = λ x c q. f.none_before x (p.earlier x c q.0.logged) q.1;
-          named = f.named;
-        })
+        inr (
+          (λ x c. (has_entries n l x).0 (all x c)),
+          record {
+            before = p.before;
+            entry = f.entry;
+            after = p.after;
+            whole = p.whole;
+            holds = ((has_entries n l f.entry).0 (first_in (λ x. Contains (trace_entries notes lost) x → ⊥) (trace_entries own_notes own_lost) id f), f.holds);
+            none_before = λ x c q. f.none_before x (p.earlier x c q.0.logged) q.1;
+            named = f.named;
+          },
+        )
 
     pub none_lacked : FindsLacking (trace_entries own_notes own_lost) (trace_entries notes lost) None → (x : Entry) → Contains (trace_entries notes lost) x ↔ IsEntryOf M E x
     none_lacked f x = ((λ c. (has_entries n l x).0 (all x c)), (λ e. f x ((has_entries n l x).1 e)))

@@ -1,12 +1,12 @@
 -- The entries of a trace.
-use Rattle.std.proofs.Common.{◌≡◌, ℕ, true, false, List, [], ◌∷◌, ◌++◌, refl, sym, ap, ◌∙◌, subst, inl, inr, arith, append_assoc}
-use Rattle.std.specs.Prelude.{map, Contains, ◌⊎◌, ◌↔◌}
+use Rattle.std.proofs.Common.{◌≡◌, ℕ, List, [], ◌∷◌, ◌++◌, refl, sym, ap, ◌∙◌, subst, inl, inr}
+use Rattle.std.specs.Prelude.{map, Contains, ◌↔◌}
 use Rattle.std.proofs.lemmas.List.Elements.{Contains-append_left, Contains-append_right, Contains-append_cases}
 use Rattle.nm_base.specs.declared.letter.LetterId.{LetterId}
 use Rattle.nm_base.specs.declared.letter.AcceptNote.{AcceptNote}
 use Rattle.event_list.specs.declared.Event.{Event}
-use Rattle.event_list.specs.Traces.{AreNotesOf, AreLostOf, IsLoggedName, all_notes, waiting}
-use Rattle.event_list.proofs.Members.{empty, cons_cases, cons_here, cons_there}
+use Rattle.event_list.specs.Traces.{AreNotesOf, AreLostOf, all_notes, waiting}
+use Rattle.event_list.proofs.Members.{cons_here, cons_there}
 use Rattle.event_list.proofs.TraceFacts.{keeps_in, in_keeps, in_map, map_in}
 use Rattle.cut_witness.specs.declared.comparisons.Compared.{Compared}
 use Rattle.cut_witness.specs.declared.comparisons.Compared.TheVariants.{Same, Differs}

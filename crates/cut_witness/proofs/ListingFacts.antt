@@ -1,16 +1,16 @@
 -- The entries of a list of events, gathered event by event.
-use Rattle.std.proofs.Common.{◌≡◌, ℕ, ◌+◌, ◌≤◌, Bool, true, false, cond, not, List, [], ◌∷◌, ◌++◌, length, take, Option, Some, None, refl, sym, ap, ◌∙◌, subst, inl, inr, arith}
-use Rattle.std.specs.Prelude.{map, Contains, filter, filter_map, option_map, slice_get, is_some, ◌⊎◌, ◌↔◌}
+use Rattle.std.proofs.Common.{◌≡◌, ℕ, ◌+◌, ◌≤◌, Bool, true, false, cond, not, List, [], ◌∷◌, ◌++◌, length, take, Option, Some, None, refl, sym, ap, ◌∙◌, subst, inl, inr}
+use Rattle.std.specs.Prelude.{map, filter, filter_map, option_map, slice_get, is_some, ◌↔◌}
 use Rattle.std.specs.List.{cons_option}
-use Rattle.std.proofs.lemmas.Bool.{true≢false, cases_Bool, false_from_ne_true}
+use Rattle.std.proofs.lemmas.Bool.{true≢false, false_from_ne_true}
 use Rattle.std.proofs.lemmas.List.{take_all, append-nil}
 use Rattle.std.proofs.lemmas.List.Elements.{filter_map-append}
 use Rattle.nm_base.specs.declared.letter.LetterId.{LetterId}
 use Rattle.nm_base.specs.declared.letter.AcceptNote.{AcceptNote}
 use Rattle.nm_base.specs.Message.{Message}
 use Rattle.event_list.specs.declared.Event.{Event}
-use Rattle.event_list.specs.Events.{letter_of, letters, taken_of, Accepts, IsTaken}
-use Rattle.event_list.specs.Traces.{Keeps, nothing, kept, left_out, is_taken, waiting, receive_number, note_of, all_notes, IsLoggedName, AreNotesOf, AreLostOf}
+use Rattle.event_list.specs.Events.{letter_of, letters, taken_of, IsTaken}
+use Rattle.event_list.specs.Traces.{Keeps, nothing, kept, left_out, is_taken, receive_number, note_of, IsLoggedName, AreLostOf}
 use Rattle.event_list.specs.Runs.{Sound}
 use Rattle.event_list.proofs.TraceFacts.{taken_is, is_taken_from}
 use Rattle.causal_stop.proofs.PlaceFacts.{taken_more}

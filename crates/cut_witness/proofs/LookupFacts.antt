@@ -1,20 +1,20 @@
 -- Entries in sets, and the first that a set lacks.
 use Rattle.std.proofs.Common.{◌≡◌, ℕ, zero, suc, ◌+◌, ◌<◌, Bool, true, false, cond, not, List, [], ◌∷◌, ◌++◌, length, take, get_or, Option, Some, None, refl, sym, ap, ◌∙◌, subst, inl, inr, arith, append_assoc}
-use Rattle.std.specs.Prelude.{map, Contains, find, option_map, ◌⊎◌, ◌↔◌, ◌==◌, ◌&&◌}
+use Rattle.std.specs.Prelude.{map, Contains, find, option_map, ◌⊎◌, ◌==◌, ◌&&◌}
 use Rattle.std.specs.List.{list_any}
-use Rattle.std.proofs.lemmas.Bool.{and_parts, and_from, eqb-true, eq-eqb, false≢true, not-true, not_from_false}
-use Rattle.std.proofs.lemmas.List.{take_all, take_more, map-append, append-nil}
+use Rattle.std.proofs.lemmas.Bool.{and_parts, and_from, eqb-true, eq-eqb, false≢true, not-true}
+use Rattle.std.proofs.lemmas.List.{take_more, map-append}
 use Rattle.std.proofs.lemmas.List.Folds.{find-append}
 use Rattle.std.specs.Option.{option_or}
-use Rattle.std.proofs.lemmas.List.Elements.{Contains-append_left, Contains-append_right, Contains-append_cases, Contains-push, Contains-push_cases}
+use Rattle.std.proofs.lemmas.List.Elements.{Contains-append_left, Contains-append_cases, Contains-push, Contains-push_cases}
 use Rattle.nm_base.specs.declared.letter.LetterId.{LetterId}
 use Rattle.nm_base.specs.declared.letter.AcceptNote.{AcceptNote}
 use Rattle.nm_base.specs.Message.{same_name}
-use Rattle.event_list.proofs.Members.{empty, cons_cases, cons_here, cons_there, find_none}
+use Rattle.event_list.proofs.Members.{empty, cons_cases, find_none}
 use Rattle.event_list.proofs.Projections.{name_from, same_name_at}
 use Rattle.event_list.proofs.TraceFacts.{in_map}
 use Rattle.cut_witness.specs.declared.lookups.NoteKey.{NoteKey}
-use Rattle.cut_witness.specs.Comparisons.{Entry, Noted, Missed, letter_in, trace_entries, FirstNames}
+use Rattle.cut_witness.specs.Comparisons.{Entry, Noted, Missed, trace_entries, FirstNames}
 use Rattle.cut_witness.specs.private.Lookups.{key_of, same_key, Sets, has_note, has_lost, has, Holds, FindsFirst}
 
 -- notes with the same key are one
@@ -118,7 +118,10 @@ module _ {X : Type 0} (test : X → Bool) where
       by true t k ih = let e = some_same y x k in ([], xs, ap (λ z. z ∷ xs) e, ap test (sym e) ∙ t, (λ z c. absurd (empty z c)))
       by false t k ih =
           let r = ih k in (
-            y ∷ r.0, r.1, ap (λ l. y ∷ l) r.2, r.3,
+            y ∷ r.0,
+            r.1,
+            ap (λ l. y ∷ l) r.2,
+            r.3,
             (λ z c. elim (cons_cases y r.0 z c) [ inl e ↦ ap test (sym e) ∙ t | inr o ↦ r.4 z o ]),
           )
 

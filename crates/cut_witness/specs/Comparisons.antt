@@ -52,4 +52,4 @@ IsCompared M notes lost E Same = HasEntries M notes lost E
 IsCompared M notes lost E (Differs first) =
     FirstNames (λ x. IsEntryOf M E x → ⊥) (trace_entries notes lost) first
     ⊎ (((x : Entry) → Contains (trace_entries notes lost) x → IsEntryOf M E x)
-      × FirstNames (λ x. IsEntryOf M E x × (Contains (trace_entries notes lost) x → ⊥)) (all_entries E) first)
+    × FirstNames (λ x. IsEntryOf M E x × (Contains (trace_entries notes lost) x → ⊥)) (all_entries E) first)

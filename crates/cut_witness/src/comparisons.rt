@@ -8,7 +8,5 @@ pub enum Compared {
     Same,
     /// The letter of the trace's first entry that the list lacks, else of the list's first entry that the
     /// trace lacks.
-    Differs {
-        first: LetterId,
-    },
+    Differs { first: LetterId },
 }

@@ -54,7 +54,11 @@ fn lost_at(events: &EventList, mask: u32, e: &Event) -> Option<LetterId>
 }
 
 /// The notes of the list.
-pub fn notes_of(alloc: Global, events: &EventList, mask: u32) -> Result<Vec<AcceptNote>, WantOfMemory>
+pub fn notes_of(
+    alloc: Global,
+    events: &EventList,
+    mask: u32,
+) -> Result<Vec<AcceptNote>, WantOfMemory>
     requires { Sound mask events.now.events }
     ensures { IfOk result (λ notes. AreNotesOf mask events.now.events notes.items) }
 {

@@ -1,5 +1,5 @@
 -- How the entries of a list of events are listed, and how entries are looked up.
-use Rattle.std.specs.Prelude.{◌≡◌, ℕ, ◌==◌, ◌&&◌, ◌⊎◌, ◌↔◌, Bool, true, not, if◌then◌else◌, List, Option, None, Some, option_map, find, Contains}
+use Rattle.std.specs.Prelude.{◌≡◌, ◌==◌, ◌&&◌, ◌⊎◌, ◌↔◌, Bool, true, if◌then◌else◌, List, Option, None, Some, Contains}
 use Rattle.std.specs.List.{list_any}
 use Rattle.nm_base.specs.declared.letter.LetterId.{LetterId}
 use Rattle.nm_base.specs.declared.letter.AcceptNote.{AcceptNote}
@@ -8,7 +8,7 @@ use Rattle.event_list.specs.declared.Event.{Event}
 use Rattle.event_list.specs.Events.{letter_of}
 use Rattle.event_list.specs.Traces.{is_taken}
 use Rattle.cut_witness.specs.declared.lookups.NoteKey.{NoteKey}
-use Rattle.cut_witness.specs.Comparisons.{Entry, Noted, Missed, letter_in, FirstNames}
+use Rattle.cut_witness.specs.Comparisons.{Entry, Noted, Missed, FirstNames}
 
 -- x itself where P holds of it
 abbrev pub PassesOn : {X : Type 0} → (X → Type 0) → Option X → Option X → Type 0
