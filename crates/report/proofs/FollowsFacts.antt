@@ -13,7 +13,7 @@ use Rattle.c_process.specs.Shown.{played_after, look_after, line_after, output_a
 use Rattle.c_process.proofs.Compiled.{compiled_is_code}
 use Rattle.event_list.specs.declared.Event.{Event}
 use Rattle.event_list.specs.Cuts.{cut_list}
-use Rattle.event_list.specs.Events.{entries, count, messages, letters, taken, taken_of, letter_named}
+use Rattle.event_list.specs.Events.{entries, count, messages, taken, taken_of, letter_named}
 use Rattle.event_list.specs.Runs.{Sound}
 use Rattle.event_list.specs.Sameness.{SameEntries}
 use Rattle.event_list.specs.Traces.{Trace, IsReplay, Agrees}

@@ -10,9 +10,7 @@ use Rattle.report.specs.Texts.{block, summary}
 use Rattle.report.proofs.Pieces.{prints_more, still_failed, failed_on}
 use Rattle.report.proofs.Each.{flat_append}
 use Rattle.nm_base.specs.declared.letter.ProcNo.{ProcNo}
-use Rattle.nm_base.specs.declared.letter.Letter.{Letter}
 use Rattle.nm_base.specs.Message.{Message}
-use Rattle.nm_base.specs.Scripts.{Script}
 use Rattle.c_tree.specs.declared.program.Program.{Program}
 use Rattle.c_tree.specs.Play.{script_of}
 use Rattle.stack_code.specs.Code.{Code}
