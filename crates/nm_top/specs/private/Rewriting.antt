@@ -22,10 +22,10 @@ abbrev pub holding : Place → List ℕ → Option Files
 holding at bytes = option_map (λ fs. insert fs at.name bytes) at.start
 
 -- the bytes so far: the writer stands for them, and the named file is open and holds them, where files are told
-pub record IsSoFar (at : Place) (w : TraceWriter) (files : Option Files) (open_name : List ℕ) (bytes : List ℕ) : Type 0 where
+pub record IsSoFar (at : Place) (w : TraceWriter) (files : Option Files) (opened bytes : List ℕ) : Type 0 where
   pub writes : Writes w bytes
   pub is : files ≡ holding at bytes
-  pub name_is : IsSome files → open_name ≡ at.name
+  pub name_is : IsSome files → opened ≡ at.name
 
 -- the named file holds a front of these bytes, where files are told, and no other file changed
 pub record HoldsFront (at : Place) (files : Option Files) (bytes : List ℕ) : Type 0 where

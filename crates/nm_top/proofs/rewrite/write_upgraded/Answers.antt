@@ -30,15 +30,19 @@ pub returns-in-Ok-clause-bytes : goal.returns-in-Ok-clause-bytes
 returns-in-Ok-clause-bytes g c =
     let at : Place = record { start = g.C.Cabinet.files c.args.files.now; name = c.args.name.now } in
     let e = c.in_ok-writer.ensures in
-    c.in-Ok.ensures.size at (begun_so_far (upgraded c.args.trace.now) at c.mask.result c.n.result c.digest.result.now c.mask.ensures c.n.ensures c.digest.ensures
-    e.stands e.ok e.name)
+    let begun = begun_so_far (upgraded c.args.trace.now) at c.mask.result c.n.result c.digest.result.now c.mask.ensures c.n.ensures c.digest.ensures
+    e.stands e.ok e.name in
+    let told = c.in-Ok.ensures.size at begun in
+    search
 
 pub returns-in-Ok-clause-written : goal.returns-in-Ok-clause-written
 returns-in-Ok-clause-written g c =
     let at : Place = record { start = g.C.Cabinet.files c.args.files.now; name = c.args.name.now } in
     let e = c.in_ok-writer.ensures in
-    c.in-Ok.ensures.whole at (begun_so_far (upgraded c.args.trace.now) at c.mask.result c.n.result c.digest.result.now c.mask.ensures c.n.ensures c.digest.ensures
-    e.stands e.ok e.name)
+    let begun = begun_so_far (upgraded c.args.trace.now) at c.mask.result c.n.result c.digest.result.now c.mask.ensures c.n.ensures c.digest.ensures
+    e.stands e.ok e.name in
+    let told = c.in-Ok.ensures.whole at begun in
+    search
 
 pub returns-in-Err-clause-cut : goal.returns-in-Err-clause-cut
 returns-in-Err-clause-cut g c _ =
