@@ -30,7 +30,7 @@ use Rattle.trace_file.proofs.Walk.{one_trace, no_damage}
 use Rattle.replay_core.specs.Gates.{seen_trace}
 use Rattle.cut_witness.specs.declared.comparisons.Compared.TheVariants.{Same, Differs}
 use Rattle.cut_witness.specs.Comparisons.{HasEntries}
-use Rattle.cut_witness.proofs.LawFacts.{one_comparison}
+use Rattle.cut_witness.proofs.EntryFacts.{one_comparison}
 use Rattle.nm_top.specs.Programs.{Reads}
 use Rattle.nm_top.proofs.ProgramLaws.{only_program}
 

@@ -35,8 +35,8 @@ use Rattle.nm_top.specs.Demands.{
 }
 use Rattle.nm_top.specs.Finishing.{replay_text}
 use Rattle.nm_top.specs.Answers.{CommandAnswer, Demanding, Refuses, missing, too_long, refused, IsReason, IsDone, pair_demands}
-use Rattle.nm_top.specs.private.Works.{Stops, Nothing}
-use Rattle.nm_top.proofs.FileLaws.{held_more, stops_on, same_trace}
+use Rattle.nm_top.specs.private.Works.{Stops, Nothing, IsUnmet}
+use Rattle.nm_top.proofs.FileLaws.{held_more, later_stops, unmet_at_once, same_trace}
 
 -- ---- what a program and its trace meet
 
@@ -116,3 +116,23 @@ module _ (held : Files) (trace schedule : List ℕ) (t : Content) (has : HasTrac
   schedule_stops_for (Refused r) (inl h) = inl h
   schedule_stops_for (Refused r) (inr (inl h)) = inr (inl (refuses_for _ h))
   schedule_stops_for (Refused r) (inr (inr h)) = absurd h.1
+
+-- ---- what was read
+
+module _ (F : Option Files) (program trace : List ℕ) (p : Program) (t : Content) (digest : List ℕ)
+    (a : IfSome F (λ held. HoldsIn held (λ text. Reads text p × (digest ≡ sha256 text)) (program_file program))) (b : IfSome F (λ held. HasTrace held trace t)) where
+  -- its digest is another one
+  pub other_stops : (stop : Stop) → ((held : Files) (q name : List ℕ) → HasDigest held q name t digest → IsUnmet (SameProgram q name) held [] stop)
+      → IfSome F (λ held. Stops (Demanding (pair_demands program trace) Nothing held) held stop)
+  other_stops stop unmet = by F a b
+    where
+      by : (o : Option Files) → IfSome o (λ held. HoldsIn held (λ text. Reads text p × (digest ≡ sha256 text)) (program_file program)) → IfSome o (λ held. HasTrace held trace t)
+          → IfSome o (λ held. Stops (Demanding (pair_demands program trace) Nothing held) held stop)
+      by None a b = tt
+      by (Some held) a b =
+          let has = record { has_trace = b; of_file = held_more held (program_file program) (λ text. Reads text p × (digest ≡ sha256 text)) (λ text. digest ≡ sha256 text) (λ text r. r.1) a } in
+          later_stops (ProgramText program) held
+          (held_more held (program_file program) (λ text. Reads text p × (digest ≡ sha256 text)) (Admits (ProgramText program) held) (λ text r. (p, r.0)) a)
+          (TraceText trace ∷ SameProgram program trace ∷ []) stop
+          (later_stops (TraceText trace) held (held_more held (trace_file trace) (λ bytes. IsSpelling t bytes) (Admits (TraceText trace) held) (λ bytes r. (t, r)) b)
+          (SameProgram program trace ∷ []) stop (unmet_at_once (SameProgram program trace) held refl stop (unmet held program trace has)))
