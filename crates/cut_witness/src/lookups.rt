@@ -72,7 +72,8 @@ impl EntrySet {
     }
 
     fn add_note(&mut self, note: &AcceptNote) -> Result<(), WantOfMemory>
-        ensures { OnOk result ((notes : List AcceptNote) → Holds self.old notes [] → Holds self.new (notes ++ note.now ∷ []) []) }
+        ensures { OnOk result ((notes : List AcceptNote)
+            → Holds self.old notes [] → Holds self.new (notes ++ note.now ∷ []) []) }
     {
         add_key(&mut self.noted, key_of(note))?;
         Ok(())
