@@ -1,5 +1,5 @@
 -- What a command that was carried out answers.
-use Rattle.std.proofs.Common.{◌≡◌, ◌≢◌, ◌⊎◌, ℕ, zero, suc, List, [], Bool, true, false, Option, None, Some, Ok, Err, IfSome, MatchOption, inl, inr, refl, sym, ap, ◌∙◌, subst, arith, append-nil}
+use Rattle.std.proofs.Common.{◌≡◌, ◌≢◌, ◌⊎◌, ℕ, zero, suc, List, [], ◌∷◌, ◌++◌, Bool, true, false, Option, None, Some, Ok, Err, IfSome, MatchOption, inl, inr, refl, sym, ap, ◌∙◌, subst, arith, append-nil}
 use Rattle.std.specs.Prelude.{take}
 use Rattle.std.proofs.lemmas.Option.{IfSome_then}
 use Rattle.std.specs.Io.KnownBytes.{Appends}
@@ -17,7 +17,7 @@ use Rattle.nm_top.specs.Commands.{Command, command_of}
 use Rattle.nm_top.specs.Statuses.{status_of, IsOf}
 use Rattle.nm_top.specs.Lines.{IsLineOf, MayStopAt, PrintsLine}
 use Rattle.nm_top.specs.Replies.{Reply, reply, Says, Answers, CutShort, CutOff, Breaks, KeepsOthers}
-use Rattle.nm_top.specs.Demands.{Demand, IsFetched}
+use Rattle.nm_top.specs.Demands.{Demand, Fetch, fetch_of, IsFetched}
 use Rattle.nm_top.specs.Answers.{CommandAnswer, Demanding, IsDone, Answer, Fetches, IsBroken, IsEnough, MayBreak, Suffices, demands_of, written_of, written_by}
 use Rattle.nm_top.specs.private.Works.{
   Work,
@@ -78,6 +78,10 @@ stop_unbroken Memory = refl
 pub stands_still : (given : Bool) (n : ℕ) → given ≡ false → BelongsTo given n n
 stands_still false n e = record { later = omega (arith); rose = tt; still = refl }
 stands_still true n e = absurd cc
+
+pub appends_none : (a : Option (List ℕ)) → Appends a a []
+appends_none None = tt
+appends_none (Some xs) = sym (append-nil xs)
 
 -- what is not broken fails no write
 pub no_writes : (enough : Files → ℕ → Type 0) (before after : Outside) (work : Work) → is_broken work ≡ false → after.writes ≡ before.writes → Writes enough before after work
@@ -223,6 +227,21 @@ is_of_more P Q f (refusals.TraceDamaged kind place) h = tt
 is_of_more P Q f (refusals.OtherProgram of_trace of_file) h = tt
 is_of_more P Q f (refusals.Stuck n events counts) h = tt
 is_of_more P Q f (refusals.NotItsTrace letter) h = tt
+
+-- what is fetched at first is fetched
+pub fetched_more : (some more : List Demand) (name : List ℕ) → IsFetched some name → IsFetched (some ++ more) name
+fetched_more [] more name h = absurd h
+fetched_more (demand ∷ some) more name (inl h) = inl h
+fetched_more (demand ∷ some) more name (inr h) = inr (fetched_more some more name h)
+
+-- what is blamed on some files is blamed on more
+pub counts_more : {X : Type 0} (P Q : List ℕ → Type 0) → ((name : List ℕ) → P name → Q name) → (stop : Stop) (a b r s : ℕ) → Counts {X = X} P a b r s (Err stop) → Counts {X = X} Q a b r s (Err stop)
+counts_more P Q f (Refused refusal) a b r s c = record { blames = is_of_more P Q f refusal c.blames; absent = c.absent; failed = c.failed }
+counts_more P Q f Memory a b r s c = record { blames = tt; absent = c.absent; failed = c.failed }
+
+-- the one file that is fetched
+pub fetched_one : (demand : Demand) (fetch : Fetch) → fetch_of demand ≡ Some fetch → (name : List ℕ) → name ≡ fetch.name → IsFetched (demand ∷ []) name
+fetched_one demand fetch is name e = inl (subst (λ (o : Option Fetch). IsSomeAnd o (λ fetch. name ≡ fetch.name)) (sym is) e)
 
 module _ (words : List (List ℕ)) where
   refusal_has_line : (r : Refusal) → IsOf (Fetches words) r → IsLineOf words (status_of r) (refusal_line r)

@@ -119,20 +119,33 @@ module _ (held : Files) (trace schedule : List ℕ) (t : Content) (has : HasTrac
 
 -- ---- what was read
 
-module _ (F : Option Files) (program trace : List ℕ) (p : Program) (t : Content) (digest : List ℕ)
-    (a : IfSome F (λ held. HoldsIn held (λ text. Reads text p × (digest ≡ sha256 text)) (program_file program))) (b : IfSome F (λ held. HasTrace held trace t)) where
+module _ (F G : Option Files) (program trace : List ℕ) (p : Program) (t : Content) (digest : List ℕ)
+    (a : IfSome F (λ held. HoldsIn held (λ text. Reads text p × (digest ≡ sha256 text)) (program_file program))) (same : G ≡ F) (b : IfSome G (λ held. HasTrace held trace t)) where
   -- its digest is another one
   pub other_stops : (stop : Stop) → ((held : Files) (q name : List ℕ) → HasDigest held q name t digest → IsUnmet (SameProgram q name) held [] stop)
       → IfSome F (λ held. Stops (Demanding (pair_demands program trace) Nothing held) held stop)
-  other_stops stop unmet = by F a b
+  other_stops stop unmet = by F a (subst (λ (o : Option Files). IfSome o (λ held. HasTrace held trace t)) same b)
     where
       by : (o : Option Files) → IfSome o (λ held. HoldsIn held (λ text. Reads text p × (digest ≡ sha256 text)) (program_file program)) → IfSome o (λ held. HasTrace held trace t)
           → IfSome o (λ held. Stops (Demanding (pair_demands program trace) Nothing held) held stop)
       by None a b = tt
       by (Some held) a b =
-          let has = record { has_trace = b; of_file = held_more held (program_file program) (λ text. Reads text p × (digest ≡ sha256 text)) (λ text. digest ≡ sha256 text) (λ text r. r.1) a } in
+          let has : HasDigest held program trace t digest = record { has_trace = b; of_file = held_more held (program_file program) (λ text. Reads text p × (digest ≡ sha256 text)) (λ text. digest ≡ sha256 text) (λ text r. r.1) a } in
           later_stops (ProgramText program) held
           (held_more held (program_file program) (λ text. Reads text p × (digest ≡ sha256 text)) (Admits (ProgramText program) held) (λ text r. (p, r.0)) a)
           (TraceText trace ∷ SameProgram program trace ∷ []) stop
           (later_stops (TraceText trace) held (held_more held (trace_file trace) (λ bytes. IsSpelling t bytes) (Admits (TraceText trace) held) (λ bytes r. (t, r)) b)
           (SameProgram program trace ∷ []) stop (unmet_at_once (SameProgram program trace) held refl stop (unmet held program trace has)))
+
+module _ (F : Option Files) (program trace schedule : List ℕ) (p : Program) (t : Content) (h : IfSome F (λ held. AreReplayed held program trace p t)) where
+  -- its schedule stopped it
+  pub bad_schedule_stops : (G : Option Files) → G ≡ F → (stop : Stop) → IfSome G (λ held. Stops (Demanding (ScheduleText schedule t.n ∷ []) Nothing held) held stop)
+      → IfSome F (λ held. Stops (Demanding (pair_demands program trace ++ TraceSchedule trace schedule ∷ []) Nothing held) held stop)
+  bad_schedule_stops G same stop g =
+      by F h (subst (λ (o : Option Files). IfSome o (λ held. Stops (Demanding (ScheduleText schedule t.n ∷ []) Nothing held) held stop)) same g)
+    where
+      by : (o : Option Files) → IfSome o (λ held. AreReplayed held program trace p t) → IfSome o (λ held. Stops (Demanding (ScheduleText schedule t.n ∷ []) Nothing held) held stop)
+          → IfSome o (λ held. Stops (Demanding (pair_demands program trace ++ TraceSchedule trace schedule ∷ []) Nothing held) held stop)
+      by None a b = tt
+      by (Some held) a b =
+          pair_stops_later held program trace p t a (TraceSchedule trace schedule ∷ []) stop (schedule_stops_for held trace schedule t a.has_trace stop b)

@@ -1,6 +1,8 @@
 -- Replays of a program, turn by turn and finished.
 use Rattle.std.proofs.Common.{◌≡◌, ℕ, zero, suc, ◌+◌, ◌-◌, ◌≤◌, ◌<◌, List, [], ◌∷◌, ◌++◌, length, take, Some, refl, sym, ap, ◌∙◌, subst, arith, length-append}
 use Rattle.std.specs.Prelude.{map, slice_get}
+use Rattle.std.proofs.lemmas.List.{take_all}
+use Rattle.std.proofs.lemmas.Option.{slice_get_within}
 use Rattle.nm_base.specs.Scripts.{Script}
 use Rattle.processes.specs.declared.states.Seat.{Seat}
 use Rattle.processes.specs.Seats.{process_in}
@@ -9,6 +11,7 @@ use Rattle.c_tree.specs.Play.{script_of}
 use Rattle.c_tree.proofs.Histories.{scripts_are_lawful}
 use Rattle.stack_code.specs.Code.{Code}
 use Rattle.schedules.specs.declared.schedule.Turn.{Turn}
+use Rattle.schedules.specs.Bounds.{AreFewTurns}
 use Rattle.event_list.specs.declared.Event.{Event}
 use Rattle.event_list.specs.Traces.{Trace}
 use Rattle.event_list.specs.Turns as turns
@@ -65,7 +68,7 @@ module _ {M : Type 0} where
 
   -- the loop over the turns
   pub replay_first : (r : Replaying CProc M) (ts : List Turn) → AfterReplay r r ts 0 0
-  replay_first r ts = record { run = λ p t h. (h, refl); same = same_again r; few = omega arith }
+  replay_first r ts = record { run = λ p t h. (h, refl); same = same_again r; few = omega arith; within = omega arith }
 
   pub replay_next : (start now new : Replaying CProc M) (ts : List Turn) (i idle more : ℕ) (u : Turn) (what : Turned) → AfterReplay start now ts i idle → slice_get ts i ≡ Some u
       → ((s : ℕ → Script) (T : Trace) (R : List Event) → IsReplayOf process.stands_for-value.it now s T R → HasGone process.stands_for-value.it new s T R (seen_turn u) what)
@@ -84,7 +87,20 @@ module _ {M : Type 0} where
         );
     same = record { size = same.size ∙ a.same.size; origins = same.origins ∙ a.same.origins; mask = same.mask ∙ a.same.mask };
     few = omega (arith, a.few, few);
+    within = omega (arith, slice_get_within ts i u at);
   }
+
+  -- all turns were made
+  pub replay_all : (start now : Replaying CProc M) (ts : List Turn) (i idle : ℕ) → AfterReplay start now ts i idle → i ≡ length ts → (p : Program) (t : Content) → ReplaysProgram start p t []
+      → ReplaysProgram now p t (replayed p t ts) × (idle ≡ length ts - length (replayed p t ts))
+  replay_all start now ts i idle a all p t h =
+      let k = a.run p t h in
+      let whole : take i ts ≡ ts = ap (λ j. take j ts) all ∙ take_all (length ts) ts (omega arith) in
+      (subst (λ us. ReplaysProgram now p t (replayed p t us)) whole k.0, omega (arith, k.1, all, ap (λ us. length (replayed p t us)) whole))
+
+-- a turn of a schedule names one of its processes
+pub of_turn : (n : ℕ) (ts : List Turn) → AreFewTurns n ts → (i : ℕ) (t : Turn) → slice_get ts i ≡ Some t → t.proc.no < n
+of_turn n ts few i t at = few.below i t at
 
 -- what a turn adds to the number of idle turns
 pub counted : (E : List Event) (t : turns.Turned) (more : ℕ) → ((why : turns.Idle) → t ≡ Stays why → more ≡ 1) → ((e : Event) → t ≡ Went e → more ≡ 0) → more + length (after E t) ≡ length E + 1

@@ -1,6 +1,6 @@
 //! The command `record`.
 
-ghost use Rattle.std.specs.Prelude.{◌≡◌, ◌++◌, ℕ, List, Some, length};
+ghost use Rattle.std.specs.Prelude.{◌++◌, ℕ, List, length};
 ghost use Rattle.c_tree.specs.declared.program.Program.{Program};
 ghost use Rattle.stack_code.specs.View.{seen_code};
 ghost use Rattle.c_process.specs.Standing.{IsCodeOf};
@@ -12,7 +12,6 @@ ghost use Rattle.report.specs.Runs.{RunsProgram, blocks};
 ghost use Rattle.report.specs.Texts.{trace_line};
 ghost use Rattle.nm_top.specs.Answers.{to_record};
 ghost use Rattle.nm_top.specs.Commands.{Record};
-ghost use Rattle.nm_top.specs.Replies.{KeepsOthers};
 ghost use Rattle.nm_top.specs.private.Named.{AreFew};
 ghost use Rattle.nm_top.specs.private.Recorded.{HasRecorded, recorded_work};
 ghost use Rattle.nm_top.specs.private.Works.{Carries, Tells, outside};
@@ -87,14 +86,13 @@ fn record_code<C: Cabinet, O: Sink>(
     requires version { IsVersion to.version to.mask }
     requires turns { AreFewTurns processes demanded.now.schedule }
     requires code { (p : Program) × IsCodeOf p (seen_code code.now) }
-    ensures recorded { (program schedule : List ℕ) (p : Program) → IsCodeOf p (seen_code code.now) → HasRecorded
+    ensures { (program schedule : List ℕ) (p : Program) → IsCodeOf p (seen_code code.now) → HasRecorded
         (to_record program processes schedule to.entry.trace.now to.entry.version to.entry.mask) p
         demanded.now.source.digest demanded.now.schedule
         (outside (C.files files.old) (C.absents files.old) (C.read_faults files.old) (C.write_faults files.old)
         (C.sure_room files.old) (O.given out.old) (O.faults out.old))
         (outside (C.files files.new) (C.absents files.new) (C.read_faults files.new) (C.write_faults files.new)
         (C.sure_room files.new) (O.given out.new) (O.faults out.new)) result }
-    ensures keeps { KeepsOthers (Some to.entry.trace.now) (C.files files.old) (C.files files.new) }
 {
     let Ok(seats) = seats_of(alloc, code, processes) else {
         return Status::WantOfMemory;
@@ -127,14 +125,13 @@ fn record_program<C: Cabinet, O: Sink>(
     requires range { AreFew processes }
     requires version { IsVersion to.version to.mask }
     requires turns { AreFewTurns processes demanded.now.schedule }
-    ensures recorded { (program schedule : List ℕ) → HasRecorded
+    ensures { (program schedule : List ℕ) → HasRecorded
         (to_record program processes schedule to.entry.trace.now to.entry.version to.entry.mask)
         demanded.now.source.program demanded.now.source.digest demanded.now.schedule
         (outside (C.files files.old) (C.absents files.old) (C.read_faults files.old) (C.write_faults files.old)
         (C.sure_room files.old) (O.given out.old) (O.faults out.old))
         (outside (C.files files.new) (C.absents files.new) (C.read_faults files.new) (C.write_faults files.new)
         (C.sure_room files.new) (O.given out.new) (O.faults out.new)) result }
-    ensures keeps { KeepsOthers (Some to.entry.trace.now) (C.files files.old) (C.files files.new) }
 {
     let Ok(code) = compiled(alloc, &demanded.source.program) else {
         return Status::WantOfMemory;

@@ -24,3 +24,4 @@ pub record AfterReplay {M : Type 0} (start now : Replaying CProc M) (turns : Lis
       → ReplaysProgram now p t (replayed p t (take i turns)) × (idle + length (replayed p t (take i turns)) ≡ i)
   pub same : IsSameRun process.origin_of-value.it start now
   pub few : idle ≤ i
+  pub within : i ≤ length turns

@@ -17,7 +17,11 @@ returns-in-Err-trace_in-clause-gives g c =
     (gives_first _ (TraceText c.args.trace.now ∷ []) (SameProgram c.args.program.now c.args.trace.now ∷ []) c.in-Err-trace_in.stop c.in-Err-trace_in.ensures.gives)
 
 pub returns-in-Ok-same_program-clause-gives : goal.returns-in-Ok-same_program-clause-gives
-returns-in-Ok-same_program-clause-gives g c = ?
+returns-in-Ok-same_program-clause-gives g c =
+    pair_read (g.C.Cabinet.files c.args.files.now) c.args.program.now c.args.trace.now c.in-Ok.source.program c.in-Ok-trace_in.trace c.in-Ok.source.digest c.in-Ok.ensures.gives _ c.in-Ok.ensures.files
+    c.in-Ok-trace_in.ensures.gives c.in-Ok-same_program.ensures.same
 
-pub returns-in-Err-same_program-clause-gives : goal.returns-in-Err-same_program-clause-gives
-returns-in-Err-same_program-clause-gives g c = ?
+pub returns-clause-gives : goal.returns-clause-gives
+returns-clause-gives g c =
+    other_stops (g.C.Cabinet.files c.args.files.now) _ c.args.program.now c.args.trace.now c.in-Ok.source.program c.in-Ok-trace_in.trace c.in-Ok.source.digest c.in-Ok.ensures.gives
+    c.in-Ok.ensures.files c.in-Ok-trace_in.ensures.gives c.in-Err-same_program.stop c.in-Err-same_program.ensures.unmet
