@@ -1,5 +1,5 @@
 -- Certificates that are printed one after the other.
-use Rattle.std.proofs.Common.{◌≡◌, ℕ, zero, suc, ◌+◌, ◌<◌, ◌≤◌, List, [], ◌∷◌, ◌++◌, length, take, drop, map, get_or, Option, None, Some, Ok, Err, Result, refl, sym, ap, ◌∙◌, subst, inl, inr, arith, append_assoc, append-nil, length-append, add-one}
+use Rattle.std.proofs.Common.{◌≡◌, ℕ, zero, suc, ◌+◌, ◌<◌, ◌≤◌, List, [], ◌∷◌, ◌++◌, length, take, drop, map, get_or, Option, None, Some, Ok, Err, Result, IfSome, refl, sym, ap, ◌∙◌, subst, inl, inr, arith, append_assoc, append-nil, length-append, add-one}
 use Rattle.std.specs.Prelude.{⊤, ◌⊎◌}
 use Rattle.std.specs.Io.KnownBytes.{Appends}
 use Rattle.std.proofs.KnownBytes.{Appends-trans}
@@ -12,8 +12,10 @@ use Rattle.nm_outside.specs.Files.{AppendsPart}
 use Rattle.nm_outside.specs.declared.cabinet.Failed.{Failed}
 use Rattle.nm_outside.proofs.Parts.{part_given}
 use Rattle.c_tree.specs.declared.program.Program.{Program}
+use Rattle.c_tree.specs.Play.{script_of}
 use Rattle.event_list.specs.declared.Event.{Event}
 use Rattle.cut_witness.specs.declared.certificates.Witness.{Witness}
+use Rattle.cut_witness.specs.Certificates.{IsCertificate, IsCarriedOut}
 use Rattle.cut_witness.specs.Comparisons.{Noted, Missed, letter_in, trace_entries}
 use Rattle.report.specs.Printing.{Prints}
 use Rattle.report.specs.Texts.{certificate, certificates_line}
@@ -100,6 +102,13 @@ module _ (p : Program) (n mask : ℕ) (F : List Event) where
     puts_both xs ys (Err Memory) g h =
         let many = taken_of_second h.0 xs ys in
         (many.0, subst (λ (zs : List LetterId). Given p n mask F zs before after was now) (sym many.1) (given_both xs (take h.0 ys) g h.1))
+
+  -- what was found is the letter's certificate
+  pub certifies : (letter : LetterId) (found : Option Witness) (w : Witness) → found ≡ Some w → IfSome found (λ w. (w.id ≡ letter) × IsCertificate mask F w)
+      → IfSome found (IsCarriedOut (script_of p n) mask F) → Certifies p n mask F letter w
+  certifies letter found w is told carried =
+      let t = subst (λ (o : Option Witness). IfSome o (λ w. (w.id ≡ letter) × IsCertificate mask F w)) is told in
+      record { names = t.0; certificate = t.1; carried = subst (λ (o : Option Witness). IfSome o (IsCarriedOut (script_of p n) mask F)) is carried }
 
   -- no certificate
   pub given_none : (a : Option (List ℕ)) (k : ℕ) → Given p n mask F [] a a k k
