@@ -1,10 +1,9 @@
 -- Certificates that are printed one after the other.
-use Rattle.std.proofs.Common.{◌≡◌, ℕ, zero, suc, ◌+◌, ◌<◌, ◌≤◌, List, [], ◌∷◌, ◌++◌, length, take, drop, map, get_or, Option, None, Some, Ok, Err, Result, IfSome, refl, sym, ap, ◌∙◌, subst, inl, inr, arith, append_assoc, append-nil, length-append, add-one}
+use Rattle.std.proofs.Common.{◌≡◌, ℕ, zero, suc, ◌+◌, ◌<◌, ◌≤◌, List, [], ◌∷◌, ◌++◌, length, take, drop, map, get_or, Option, None, Some, Ok, Err, Result, IfSome, refl, sym, ap, ◌∙◌, subst, inl, inr, arith, append_assoc, append-nil, length-append}
 use Rattle.std.specs.Prelude.{⊤, ◌⊎◌}
 use Rattle.std.specs.Io.KnownBytes.{Appends}
 use Rattle.std.proofs.KnownBytes.{Appends-trans}
-use Rattle.std.proofs.lemmas.List.{take-append-drop}
-use Rattle.std.proofs.Math.Seq.{take-suc}
+use Rattle.std.proofs.lemmas.List.{take-append-drop, take_all, take_more, get_or-map, length-map}
 use Rattle.nm_base.specs.declared.letter.LetterId.{LetterId}
 use Rattle.nm_base.specs.declared.letter.AcceptNote.{AcceptNote}
 use Rattle.nm_outside.specs.Causes.{Rose}
@@ -36,6 +35,17 @@ names_are [] lost = missed lost
     missed [] = refl
     missed (id ∷ ids) = ap (λ (xs : List LetterId). id ∷ xs) (missed ids)
 names_are (note ∷ notes) lost = ap (λ (xs : List LetterId). note.id ∷ xs) (names_are notes lost)
+
+-- the letters of the first notes, with one more
+pub noted_more : (notes : List AcceptNote) (i : ℕ) (d : AcceptNote) → i < length notes
+    → take (i + 1) (map (λ note. note.id) notes) ≡ take i (map (λ note. note.id) notes) ++ (get_or notes i d).id ∷ []
+noted_more notes i d lt =
+    take_more (map (λ note. note.id) notes) i d.id (omega (arith, lt, length-map notes (λ (note : AcceptNote). note.id)))
+    ∙ ap (λ (id : LetterId). take i (map (λ note. note.id) notes) ++ id ∷ []) (get_or-map (λ (note : AcceptNote). note.id) notes i d d.id lt)
+
+-- and those of all
+pub noted_all : (notes : List AcceptNote) (i : ℕ) → length notes ≤ i → take i (map (λ note. note.id) notes) ≡ map (λ note. note.id) notes
+noted_all notes i long = take_all i (map (λ note. note.id) notes) (omega (arith, long, length-map notes (λ (note : AcceptNote). note.id)))
 
 -- the first of some letters and of one more
 taken_of_one : (k : ℕ) (x : LetterId) → (take k (x ∷ []) ≡ []) ⊎ (take k (x ∷ []) ≡ x ∷ [])
@@ -110,6 +120,10 @@ module _ (p : Program) (n mask : ℕ) (F : List Event) where
       let t = subst (λ (o : Option Witness). IfSome o (λ w. (w.id ≡ letter) × IsCertificate mask F w)) is told in
       record { names = t.0; certificate = t.1; carried = subst (λ (o : Option Witness). IfSome o (IsCarriedOut (script_of p n) mask F)) is carried }
 
+  -- the same letters
+  pub same_given : (before after : Option (List ℕ)) (was now : ℕ) (xs ys : List LetterId) → xs ≡ ys → Given p n mask F xs before after was now → Given p n mask F ys before after was now
+  same_given before after was now xs ys is g = subst (λ (zs : List LetterId). Given p n mask F zs before after was now) is g
+
   -- no certificate
   pub given_none : (a : Option (List ℕ)) (k : ℕ) → Given p n mask F [] a a k k
   given_none None k = record { text = []; certified = none; given = tt; still = refl }
@@ -148,6 +162,24 @@ module _ (p : Program) (n mask : ℕ) (F : List Event) where
         record { work = Short h.1.text; is = (h.0, h.1.certified); tells = inl (write refl, h.1.rose, h.1.given) }
     told_halted letters Memory status h write memory =
         record { work = Short h.1.text; is = (h.0, h.1.certified); tells = inr (memory refl, h.1.still, h.1.given) }
+
+  -- of a list of letters the first were given, and one more was tried
+  module _ (before mid after : Option (List ℕ)) (was at now : ℕ) (letters : List LetterId) (i : ℕ) (letter : LetterId)
+      (one : take (i + 1) letters ≡ take i letters ++ letter ∷ []) (g : Given p n mask F (take i letters) before mid was at) where
+    pub gave_next : (r : Result ⊤ Halt) → r ≡ Ok tt → PutsCertificates p n mask F (letter ∷ []) mid after at now r → Given p n mask F (take (i + 1) letters) before after was now
+    gave_next r is h =
+        subst (λ (zs : List LetterId). Given p n mask F zs before after was now) (sym one)
+        (subst (λ (r : Result ⊤ Halt). PutsCertificates p n mask F (take i letters ++ letter ∷ []) before after was now r) is
+        (puts_both before mid after was at now (take i letters) (letter ∷ []) r g h))
+
+    pub halts_next : (r : Result ⊤ Halt) (e : Halt) → r ≡ Err e → PutsCertificates p n mask F (letter ∷ []) mid after at now r
+        → PutsCertificates p n mask F letters before after was now (Err e)
+    halts_next r e is h =
+        let whole : (take i letters ++ letter ∷ []) ++ drop (i + 1) letters ≡ letters =
+        ap (λ (zs : List LetterId). zs ++ drop (i + 1) letters) (sym one) ∙ take-append-drop (i + 1) letters in
+        subst (λ (zs : List LetterId). PutsCertificates p n mask F zs before after was now (Err e)) whole
+        (puts_first before after was now (take i letters ++ letter ∷ []) (drop (i + 1) letters) r e is
+        (puts_both before mid after was at now (take i letters) (letter ∷ []) r g h))
 
   -- all certificates were given, and their number was tried
   module _ (before mid after : Option (List ℕ)) (was at now : ℕ) (letters : List LetterId) (status : Status) (g : Given p n mask F letters before mid was at) where
