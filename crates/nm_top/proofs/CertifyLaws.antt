@@ -1,6 +1,7 @@
 -- Certificates that are printed one after the other.
 use Rattle.std.proofs.Common.{◌≡◌, ℕ, zero, suc, ◌+◌, ◌<◌, ◌≤◌, List, [], ◌∷◌, ◌++◌, length, take, drop, map, get_or, Option, None, Some, Ok, Err, Result, IfSome, refl, sym, ap, ◌∙◌, subst, inl, inr, arith, append_assoc, append-nil, length-append}
-use Rattle.std.specs.Prelude.{⊤, ◌⊎◌}
+use Rattle.std.specs.Prelude.{⊤, ◌⊎◌, Contains}
+use Rattle.std.proofs.lemmas.List.Elements.{Contains-append_left, Contains-append_right}
 use Rattle.std.specs.Io.KnownBytes.{Appends}
 use Rattle.std.proofs.KnownBytes.{Appends-trans}
 use Rattle.std.proofs.lemmas.List.{take-append-drop, take_all, take_more, get_or-map, length-map}
@@ -13,9 +14,12 @@ use Rattle.nm_outside.proofs.Parts.{part_given}
 use Rattle.c_tree.specs.declared.program.Program.{Program}
 use Rattle.c_tree.specs.Play.{script_of}
 use Rattle.event_list.specs.declared.Event.{Event}
+use Rattle.event_list.specs.Runs.{IsRun}
+use Rattle.event_list.specs.Traces.{IsLoggedName}
+use Rattle.event_list.proofs.TraceFacts.{map_in}
 use Rattle.cut_witness.specs.declared.certificates.Witness.{Witness}
 use Rattle.cut_witness.specs.Certificates.{IsCertificate, IsCarriedOut}
-use Rattle.cut_witness.specs.Comparisons.{Noted, Missed, letter_in, trace_entries}
+use Rattle.cut_witness.specs.Comparisons.{Entry, Noted, Missed, HasEntries, letter_in, trace_entries}
 use Rattle.report.specs.Printing.{Prints}
 use Rattle.report.specs.Texts.{certificate, certificates_line}
 use Rattle.nm_top.specs.declared.status.Status.{Status}
@@ -35,6 +39,28 @@ names_are [] lost = missed lost
     missed [] = refl
     missed (id ∷ ids) = ap (λ (xs : List LetterId). id ∷ xs) (missed ids)
 names_are (note ∷ notes) lost = ap (λ (xs : List LetterId). note.id ∷ xs) (names_are notes lost)
+
+-- and they are as many
+pub many_names : (notes : List AcceptNote) (lost : List LetterId) → length notes + length lost ≡ length (map letter_in (trace_entries notes lost))
+many_names notes lost =
+    omega (arith, ap length (names_are notes lost), length-append (map (λ (note : AcceptNote). note.id) notes) lost, length-map notes (λ (note : AcceptNote). note.id))
+
+-- ---- the letters of a trace with the entries of a run are logged there
+
+module _ (mask : ℕ) (F : List Event) (notes : List AcceptNote) (lost : List LetterId) (entries : HasEntries mask notes lost F) where
+  pub notes_logged : (k : ℕ) (xs : List AcceptNote) → k ≡ mask → xs ≡ notes → (note : AcceptNote) → Contains xs note → IsLoggedName k F note.id
+  notes_logged k xs same is note has =
+      let inside = Contains-append_left (map Noted notes) (map Missed lost) (Noted note) (map_in Noted notes note (subst (λ (ys : List AcceptNote). Contains ys note) is has)) in
+      subst (λ j. IsLoggedName j F note.id) (sym same) ((entries (Noted note)).0 inside).logged
+
+  pub lost_logged : (k : ℕ) (xs : List LetterId) → k ≡ mask → xs ≡ lost → (id : LetterId) → Contains xs id → IsLoggedName k F id
+  lost_logged k xs same is id has =
+      let inside = Contains-append_right (map Noted notes) (map Missed lost) (Missed id) (map_in Missed lost id (subst (λ (ys : List LetterId). Contains ys id) is has)) in
+      subst (λ j. IsLoggedName j F id) (sym same) ((entries (Missed id)).0 inside).logged
+
+-- a run under another word for its mask
+pub same_run : (F : List Event) (k mask : ℕ) → k ≡ mask → (p : Program) × (n : ℕ) × IsRun (script_of p n) mask F → (p : Program) × (n : ℕ) × IsRun (script_of p n) k F
+same_run F k mask same run = (run.0, run.1, subst (λ j. IsRun (script_of run.0 run.1) j F) (sym same) run.2)
 
 -- the letters of the first notes, with one more
 pub noted_more : (notes : List AcceptNote) (i : ℕ) (d : AcceptNote) → i < length notes
@@ -181,22 +207,64 @@ module _ (p : Program) (n mask : ℕ) (F : List Event) where
         (puts_first before after was now (take i letters ++ letter ∷ []) (drop (i + 1) letters) r e is
         (puts_both before mid after was at now (take i letters) (letter ∷ []) r g h))
 
+  -- the same mask and letters
+  pub same_puts : (before after : Option (List ℕ)) (was now : ℕ) (k : ℕ) (xs ys : List LetterId) (r : Result ⊤ Halt) → k ≡ mask → xs ≡ ys
+      → (IsRun (script_of p n) k F → PutsCertificates p n k F xs before after was now r) → IsRun (script_of p n) mask F → PutsCertificates p n mask F ys before after was now r
+  same_puts before after was now k xs ys r same is puts run =
+      subst (λ (zs : List LetterId). PutsCertificates p n mask F zs before after was now r) is
+      (subst (λ j. PutsCertificates p n j F xs before after was now r) same (puts (subst (λ j. IsRun (script_of p n) j F) (sym same) run)))
+
+  -- the letters of a trace: of its notes, and then the lost ones
+  module _ (notes : List AcceptNote) (lost : List LetterId) where
+    abbrev noted : List LetterId
+    noted = map (λ (note : AcceptNote). note.id) notes
+
+    abbrev named : List LetterId
+    named = map letter_in (trace_entries notes lost)
+
+    -- the command halted at the notes
+    pub halted_first : (before after : Option (List ℕ)) (was now : ℕ) (r : Result ⊤ Halt) (halt : Halt) (status : Status) → r ≡ Err halt
+        → PutsCertificates p n mask F noted before after was now r → (halt ≡ Write → status ≡ statuses.WriteFault) → (halt ≡ Memory → status ≡ statuses.WantOfMemory)
+        → Told (AreCertificates p n mask F named) before after was now status
+    halted_first before after was now r halt status is h =
+        told_halted before after was now named halt status
+        (subst (λ (zs : List LetterId). PutsCertificates p n mask F zs before after was now (Err halt)) (sym (names_are notes lost))
+        (puts_first before after was now noted lost r halt is h))
+
+    module _ (before mid after : Option (List ℕ)) (was at now : ℕ) (r s : Result ⊤ Halt) (is : r ≡ Ok tt)
+        (h : PutsCertificates p n mask F noted before mid was at r) (k : PutsCertificates p n mask F lost mid after at now s) where
+      puts_named : PutsCertificates p n mask F named before after was now s
+      puts_named =
+          subst (λ (zs : List LetterId). PutsCertificates p n mask F zs before after was now s) (sym (names_are notes lost))
+          (puts_both before mid after was at now noted lost s (subst (λ (r : Result ⊤ Halt). PutsCertificates p n mask F noted before mid was at r) is h) k)
+
+      -- the command halted at the lost letters
+      pub halted_second : (halt : Halt) (status : Status) → s ≡ Err halt → (halt ≡ Write → status ≡ statuses.WriteFault) → (halt ≡ Memory → status ≡ statuses.WantOfMemory)
+          → Told (AreCertificates p n mask F named) before after was now status
+      halted_second halt status e =
+          told_halted before after was now named halt status (subst (λ (s : Result ⊤ Halt). PutsCertificates p n mask F named before after was now s) e puts_named)
+
+      -- all certificates were given
+      pub given_named : s ≡ Ok tt → Given p n mask F named before after was now
+      given_named e = subst (λ (s : Result ⊤ Halt). PutsCertificates p n mask F named before after was now s) e puts_named
+
   -- all certificates were given, and their number was tried
-  module _ (before mid after : Option (List ℕ)) (was at now : ℕ) (letters : List LetterId) (status : Status) (g : Given p n mask F letters before mid was at) where
-    pub told_all : (r : Result ⊤ Failed) → r ≡ Ok tt → Prints mid after at now (certificates_line (length letters)) r → status ≡ statuses.Done
+  module _ (before mid after : Option (List ℕ)) (was at now : ℕ) (letters : List LetterId) (status : Status) (g : Given p n mask F letters before mid was at)
+      (number : ℕ) (many : number ≡ length letters) where
+    pub told_all : (r : Result ⊤ Failed) → r ≡ Ok tt → Prints mid after at now (certificates_line number) r → status ≡ statuses.Done
         → Told (AreCertificates p n mask F letters) before after was now status
     told_all (Ok done) is h e = record {
       work = Whole (g.text ++ certificates_line (length letters));
       is = (g.text, g.certified, refl);
-      tells = inr (e, h.cause.still ∙ g.still, Appends-trans before mid after g.text (certificates_line (length letters)) g.given h.ok);
+      tells = inr (e, h.cause.still ∙ g.still, Appends-trans before mid after g.text (certificates_line (length letters)) g.given (subst (λ k. Appends mid after (certificates_line k)) many h.ok));
     }
     told_all (Err f) is h e = absurd cc
 
-    pub told_part : (r : Result ⊤ Failed) (f : Failed) → r ≡ Err f → Prints mid after at now (certificates_line (length letters)) r → status ≡ statuses.WriteFault
+    pub told_part : (r : Result ⊤ Failed) (f : Failed) → r ≡ Err f → Prints mid after at now (certificates_line number) r → status ≡ statuses.WriteFault
         → Told (AreCertificates p n mask F letters) before after was now status
     told_part (Err k) f is h e = record {
       work = Whole (g.text ++ certificates_line (length letters));
       is = (g.text, g.certified, refl);
-      tells = inl (e, subst (λ k. Rose k now) g.still h.cause.rose, part_both before mid after was at now g.text (certificates_line (length letters)) g.given h.err);
+      tells = inl (e, subst (λ k. Rose k now) g.still h.cause.rose, part_both before mid after was at now g.text (certificates_line (length letters)) g.given (subst (λ k. AppendsPart mid after (certificates_line k)) many h.err));
     }
     told_part (Ok done) f is h e = absurd cc
