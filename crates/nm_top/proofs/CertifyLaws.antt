@@ -1,6 +1,6 @@
 -- Certificates that are printed one after the other.
 use Rattle.std.proofs.Common.{◌≡◌, ℕ, zero, suc, ◌+◌, ◌<◌, ◌≤◌, List, [], ◌∷◌, ◌++◌, length, take, drop, map, get_or, Option, None, Some, Ok, Err, Result, IfSome, refl, sym, ap, ◌∙◌, subst, inl, inr, arith, append_assoc, append-nil, length-append}
-use Rattle.std.specs.Prelude.{⊤, ◌⊎◌, Contains}
+use Rattle.std.specs.Prelude.{⊤, ◌⊎◌, Contains, true, slice_index}
 use Rattle.std.proofs.lemmas.List.Elements.{Contains-append_left, Contains-append_right}
 use Rattle.std.specs.Io.KnownBytes.{Appends}
 use Rattle.std.proofs.KnownBytes.{Appends-trans}
@@ -16,20 +16,35 @@ use Rattle.c_tree.specs.Play.{script_of}
 use Rattle.event_list.specs.declared.Event.{Event}
 use Rattle.event_list.specs.Runs.{IsRun}
 use Rattle.event_list.specs.Traces.{IsLoggedName}
+use Rattle.event_list.specs.Turns.{all_reached}
 use Rattle.event_list.proofs.TraceFacts.{map_in}
+use Rattle.trace_file.specs.Content.{Content}
+use Rattle.processes.specs.Standing.{Standing}
+use Rattle.replay_core.specs.Gates.{seen_trace}
+use Rattle.replay_core.specs.declared.finish.Finished.{Finished}
+use Rattle.replay_core.specs.declared.finish.ReplayFault.{ReplayFault}
+use Rattle.replay_core.specs.declared.finish.ReplayFault.TheVariants as faults
+use Rattle.replay_core.specs.Replaying.{Replaying, HasFinished, HasFailed}
 use Rattle.cut_witness.specs.declared.certificates.Witness.{Witness}
 use Rattle.cut_witness.specs.Certificates.{IsCertificate, IsCarriedOut}
-use Rattle.cut_witness.specs.Comparisons.{Entry, Noted, Missed, HasEntries, letter_in, trace_entries}
+use Rattle.cut_witness.specs.declared.comparisons.Compared.{Compared}
+use Rattle.cut_witness.specs.declared.comparisons.Compared.TheVariants.{Differs}
+use Rattle.cut_witness.specs.Comparisons.{Entry, Noted, Missed, HasEntries, IsCompared, letter_in, trace_entries}
+use Rattle.report.specs.declared.cause.Refusal.TheVariants.{NotItsTrace}
+use Rattle.report.specs.declared.cause.Refusal.TheVariants as refusals
 use Rattle.report.specs.Printing.{Prints}
 use Rattle.report.specs.Texts.{certificate, certificates_line}
 use Rattle.nm_top.specs.declared.status.Status.{Status}
 use Rattle.nm_top.specs.declared.status.Status.TheVariants as statuses
+use Rattle.nm_top.specs.declared.stop.Stop.{Stop}
+use Rattle.nm_top.specs.declared.stop.Stop.TheVariants as stops
 use Rattle.nm_top.specs.declared.certify.Halt.{Halt}
 use Rattle.nm_top.specs.declared.certify.Halt.TheVariants.{Write, Memory}
 use Rattle.nm_top.specs.Certifying.{Certifies, AreCertified, none, more}
-use Rattle.nm_top.specs.private.Works.{Work, Whole, Short, Tells}
+use Rattle.nm_top.specs.Finishing.{finished, entries_of}
+use Rattle.nm_top.specs.private.Works.{Work, Whole, Refusing, Short, Broken, Tells, work_of}
 use Rattle.nm_top.specs.private.Certifications.{Given, GivenPart, PutsCertificates}
-use Rattle.nm_top.specs.private.Tellings.{Told, AreCertificates}
+use Rattle.nm_top.specs.private.Tellings.{Told, AreCertificates, IsCertifyWork, IsStuckStop}
 
 -- the letters that a trace names are those of its notes and then the lost ones
 pub names_are : (notes : List AcceptNote) (lost : List LetterId) → map letter_in (trace_entries notes lost) ≡ map (λ note. note.id) notes ++ lost
@@ -96,6 +111,11 @@ taken_of_second : (k : ℕ) (xs ys : List LetterId) → (many : ℕ) × (take ma
 taken_of_second k [] ys = (k, refl)
 taken_of_second k (x ∷ xs) ys = let r = taken_of_second k xs ys in (suc r.0, ap (λ (zs : List LetterId). x ∷ zs) r.1)
 
+-- nothing was given
+gives_none : (a : Option (List ℕ)) → Appends a a []
+gives_none None = tt
+gives_none (Some xs) = sym (append-nil xs)
+
 module _ (p : Program) (n mask : ℕ) (F : List Event) where
   -- certificates of these letters, and then of those
   certified_both : (xs ys : List LetterId) (a b : List ℕ) → AreCertified p n mask F xs a → AreCertified p n mask F ys b → AreCertified p n mask F (xs ++ ys) (a ++ b)
@@ -152,8 +172,7 @@ module _ (p : Program) (n mask : ℕ) (F : List Event) where
 
   -- no certificate
   pub given_none : (a : Option (List ℕ)) (k : ℕ) → Given p n mask F [] a a k k
-  given_none None k = record { text = []; certified = none; given = tt; still = refl }
-  given_none (Some xs) k = record { text = []; certified = none; given = sym (append-nil xs); still = refl }
+  given_none a k = record { text = []; certified = none; given = gives_none a; still = refl }
 
   module _ (before after : Option (List ℕ)) (was now : ℕ) where
     -- those of the first letters failed, and so do those of all
@@ -268,3 +287,76 @@ module _ (p : Program) (n mask : ℕ) (F : List Event) where
       tells = inl (e, subst (λ k. Rose k now) g.still h.cause.rose, part_both before mid after was at now g.text (certificates_line (length letters)) g.given (subst (λ k. AppendsPart mid after (certificates_line k)) many h.err));
     }
     told_part (Ok done) f is h e = absurd cc
+
+-- ---- what is told of a finished replay
+
+module _ (p : Program) (t : Content) where
+  -- memory was refused before anything was printed
+  pub nothing_told : (a : Option (List ℕ)) (k : ℕ) → Told (IsCertifyWork p t) a a k k statuses.WantOfMemory
+  nothing_told a k = record { work = Short []; is = inl refl; tells = inr (refl, refl, gives_none a) }
+
+  module _ (E : List Event) (same : E ≡ (finished p t).events) (reached : all_reached (seen_trace t) (finished p t).events ≡ true)
+      (before after : Option (List ℕ)) (was now : ℕ) (status : Status) where
+    -- its entries are others than those of the trace
+    pub differs_told : (r : Compared) (first : LetterId) → r ≡ Differs first → IsCompared t.mask t.notes t.lost E r → Tells (Refusing (NotItsTrace first)) before after was now status
+        → Told (IsCertifyWork p t) before after was now status
+    differs_told r first is compared tells = record {
+      work = Refusing (NotItsTrace first);
+      is = (reached, subst (λ (F : List Event). IsCompared t.mask t.notes t.lost F (Differs first)) same (subst (IsCompared t.mask t.notes t.lost E) is compared));
+      tells = tells;
+    }
+
+    -- they are the same, and its certificates were told
+    pub certificates_told : HasEntries t.mask t.notes t.lost E → Told (AreCertificates p t.n t.mask E (entries_of t)) before after was now status
+        → Told (IsCertifyWork p t) before after was now status
+    certificates_told has told =
+        by told.work (subst (λ (F : List Event). AreCertificates p t.n t.mask F (entries_of t) told.work) same told.is) told.tells
+      where
+        by : (w : Work) → AreCertificates p t.n t.mask (finished p t).events (entries_of t) w → Tells w before after was now status → Told (IsCertifyWork p t) before after was now status
+        by (Whole text) is tells = record {
+          work = Whole text;
+          is = (reached, subst (λ (F : List Event). HasEntries t.mask t.notes t.lost F) same has, is);
+          tells = tells;
+        }
+        by (Short text) is tells = record { work = Short text; is = inr is; tells = tells }
+        by (Refusing r) is tells = absurd is
+        by Broken is tells = absurd is
+
+  module _ {P M : Type 0} (stands_for : P → Standing) (new : Replaying P M) where
+    -- what was finished is a run
+    pub finished_run : (f : Finished) (E : List Event) → E ≡ new.events → HasFinished stands_for new (script_of p t.n) (seen_trace t) [] f
+        → (E ≡ (finished p t).events) × IsRun (script_of p t.n) t.mask E
+    finished_run f E at h =
+        let same : E ≡ (finished p t).events = at ∙ h.stands.events in
+        (same, subst (λ (F : List Event). IsRun (script_of p t.n) t.mask F) (sym same) h.stands.replay.run)
+
+    -- the replay is stuck
+    pub stuck_told : (fault : ReplayFault) (made counts : List ℕ) → fault ≡ faults.Stuck made → HasFailed stands_for new (script_of p t.n) (seen_trace t) [] fault → counts ≡ made
+        → (before after : Option (List ℕ)) (was now : ℕ) (status : Status) (stop : Stop) → IsStuckStop t counts stop → Tells (work_of stop) before after was now status
+        → Told (IsCertifyWork p t) before after was now status
+    stuck_told fault made counts is failed same before after was now status stop stuck tells =
+        by stop stuck tells (subst (HasFailed stands_for new (script_of p t.n) (seen_trace t) []) is failed)
+      where
+        by : (stop : Stop) → IsStuckStop t counts stop → Tells (work_of stop) before after was now status
+            → HasFailed stands_for new (script_of p t.n) (seen_trace t) [] (faults.Stuck made) → Told (IsCertifyWork p t) before after was now status
+        by (stops.Refused (refusals.Stuck n events recorded)) stuck tells h = record {
+          work = Refusing (refusals.Stuck n events recorded);
+          is = record {
+            below = h.below;
+            n_is = stuck.0;
+            events_are = λ q. ap (λ (xs : List ℕ). slice_index xs q) (stuck.1 ∙ same) ∙ h.told q;
+            counts_are = stuck.2;
+          };
+          tells = tells;
+        }
+        by stops.Memory stuck tells h = absurd stuck
+        by (stops.Refused refusals.Usage) stuck tells h = absurd stuck
+        by (stops.Refused (refusals.Absent name)) stuck tells h = absurd stuck
+        by (stops.Refused (refusals.ReadFault name)) stuck tells h = absurd stuck
+        by (stops.Refused (refusals.TooLong name)) stuck tells h = absurd stuck
+        by (stops.Refused (refusals.ProgramRefused kind line)) stuck tells h = absurd stuck
+        by (stops.Refused (refusals.ScheduleRefused kind place)) stuck tells h = absurd stuck
+        by (stops.Refused (refusals.TraceDamaged kind place)) stuck tells h = absurd stuck
+        by (stops.Refused (refusals.OtherProgram of_trace of_file)) stuck tells h = absurd stuck
+        by (stops.Refused (refusals.Stopped turns)) stuck tells h = absurd stuck
+        by (stops.Refused (refusals.NotItsTrace letter)) stuck tells h = absurd stuck

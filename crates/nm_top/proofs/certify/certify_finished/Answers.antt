@@ -1,33 +1,22 @@
-use Rattle.std.proofs.Common.{rules, ◌≡◌, ◌+◌, ◌<◌, ◌^◌, ℕ, [], ◌∷◌, length, map, Contains, true, ◌-◌, ◌*◌, ◌≤◌, ◌/◌, ◌%◌, Bool, false, nat_eq, nat_lt, List, ◌++◌, slice_index_or, slice_set, bit_and, bit_or, Fits, w8, w32, w64, Bor, MutBor}
-use Rattle.c_tree.specs.declared.program.Program.{Program}
 use Rattle.c_tree.specs.Play.{script_of}
-use Rattle.stack_code.specs.View.{seen_code}
-use Rattle.event_list.specs.Runs.{IsRun}
-use Rattle.event_list.specs.Traces.{IsLoggedName}
-use Rattle.event_list.specs.Turns.{all_reached}
-use Rattle.trace_file.specs.Rules.{IsTrace}
-use Rattle.cut_witness.specs.Comparisons.{HasEntries}
-use Rattle.c_process.specs.Standing.{IsCodeOf}
-use Rattle.replay_core.specs.Gates.{seen_trace}
-use Rattle.nm_top.specs.Commands as commands
-use Rattle.nm_top.specs.Finishing.{entries_of, finished}
-use Rattle.nm_top.specs.private.Certifications.{PutsCertificates}
-use Rattle.nm_top.specs.private.Tellings.{AreCertificates, IsCertifyWork, Told}
-use Rattle.nm_top.specs.private.Works.{Carries, outside}
+use Rattle.c_tree.proofs.Histories.{scripts_are_lawful}
+use Rattle.event_list.proofs.RunsSound.{runs_sound}
+use Rattle.nm_top.proofs.CertifyLaws.{nothing_told, differs_told, certificates_told}
 use Rattle.nm_top.proofs.certify.certify_finished.Goals as goal
 
--- src/certify.rt:164:24
 pub compare-requires : goal.compare-requires
-compare-requires g c = ?
+compare-requires g c =
+    let s = c.requires.sound in
+    runs_sound (script_of s.0 s.1) (scripts_are_lawful s.0 s.1) s.2
 
--- src/certify.rt:165:9
 pub returns-in_default : goal.returns-in_default
-returns-in_default g c = ?
+returns-in_default g c = λ p same reached run. nothing_told p c.args.trace.now _ _
 
--- src/certify.rt:168:9
 pub returns-in-Differs : goal.returns-in-Differs
-returns-in-Differs g c = ?
+returns-in-Differs g c = λ p same reached run.
+    differs_told p c.args.trace.now c.args.events.now.events same reached _ _ _ _ c.tell.result c.in-Ok.compared c.in-Differs.first c.in-Differs.is c.in-Ok.ensures.compared c.tell.ensures
 
--- src/certify.rt:150:1
 pub returns : goal.returns
-returns g c = ?
+returns g c = λ p same reached run.
+    certificates_told p c.args.trace.now c.args.events.now.events same reached _ _ _ _ c.put_certificates.result (c.in-Ok.ensures.same.0 c.in_default-compared.is)
+    (c.put_certificates.ensures p c.args.trace.now.n run)
