@@ -116,3 +116,25 @@ fn failing_puts(rt: HostRuntime) -> Result<(), Fail> {
     }
     Ok(())
 }
+
+/// A sink that is full keeps a part, from its front, of the certificates, also between two of them.
+#[test]
+fn a_full_sink(rt: HostRuntime) -> Result<(), Fail> {
+    let alloc = rt.alloc();
+    let held: [(&str, &[u8]); 2] = [("P", THREE_RECEIVES.as_bytes()), ("S", b"1*11 2*8 0*17")];
+    let mut files = cabinet(alloc, &held, 1000, &[])?;
+    assert_eq!(rt;
+        called(alloc, "record P 3 S T", &mut files)?.0,
+        Status::Done
+    );
+    let whole = called(alloc, "certify P T", &mut files)?;
+    assert_eq!(rt; whole.0, Status::Done);
+    for room in [0, 20, 122, 128, 130, 200] {
+        let mut out = ListSink::new(alloc, room, Vec::new(alloc))?;
+        let answer = answered(alloc, "certify P T", &mut files, &mut out)?;
+        assert_eq!(rt; answer.0, Status::WriteFault, "{room}");
+        assert!(rt; whole.1.as_str().starts_with(answer.1.as_str()), "{room}");
+        assert!(rt; answer.1.len() <= room as usize, "{room}");
+    }
+    Ok(())
+}

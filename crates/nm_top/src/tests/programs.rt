@@ -105,3 +105,34 @@ int main(void)
     return 0;
 }
 ";
+
+// Process 0 adds the words of two letters in a global variable.
+pub(super) const TWO_ADDED: &str = "\
+int x;
+
+int main(void)
+{
+    if (self() == 0) {
+        x = receive(1u);
+        x += receive(1u);
+        printf(\"%d\\n\", x);
+    } else {
+        send(0, 0, self());
+    }
+    return 0;
+}
+";
+
+// Process 0 receives a letter of each other process.
+pub(super) const ALL_TO_ONE: &str = "\
+int main(void)
+{
+    int i;
+    if (self() == 0)
+        for (i = 1; i < nprocs(); i++)
+            printf(\"%d\\n\", receive(1u));
+    else
+        send(0, 0, self());
+    return 0;
+}
+";

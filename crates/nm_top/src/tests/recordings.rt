@@ -1,7 +1,8 @@
 //! Recordings: what is printed, and the bytes of the trace.
 
 use super::programs::{
-    ONE_LETTER, REQUESTS, THREE_RECEIVES, TO_ITSELF, TWO_CHANNELS, TWO_LETTERS, TWO_OF_ONE_SENDER,
+    ONE_LETTER, REQUESTS, THREE_RECEIVES, TO_ITSELF, TWO_ADDED, TWO_CHANNELS, TWO_LETTERS,
+    TWO_OF_ONE_SENDER,
 };
 use super::{SINK_ROOM, answered, answers, cabinet, hex, trace_of};
 use crate::Status;
@@ -80,7 +81,15 @@ fn a_whole_trace(rt: HostRuntime) -> Result<(), Fail> {
 /// A letter that might have come first is noted.
 #[test]
 fn races_are_noted(rt: HostRuntime) -> Result<(), Fail> {
-    let table: [Row; 3] = [
+    let table: [Row; 4] = [
+        (
+            "record P 3 S T",
+            TWO_ADDED,
+            BOTH_WAIT,
+            "== process 0 ended 0, 10 events, 2 bytes\n3\n== process 1 ended 0, 6 events, 0 bytes\n== process 2 ended 0, 6 events, 0 bytes\n== events 22, sent 2, accepted 2, waiting 0\n== trace notes 1, lost 0, bytes 94\n",
+            "4e4d5452 01 03",
+            "01 00 00000001 02 00000000 03 0000000a 00000006 00000006",
+        ),
         (
             "record P 3 S T",
             TWO_LETTERS,

@@ -1,7 +1,9 @@
 //! Replays, under a schedule and to the recorded end.
 
-use super::programs::{ONE_LETTER, THREE_RECEIVES, TWO_LETTERS};
-use super::{answered, answers, cabinet, hex, trace_of};
+use super::programs::{
+    ALL_TO_ONE, ONE_LETTER, REQUESTS, THREE_RECEIVES, TWO_LETTERS, TWO_OF_ONE_SENDER,
+};
+use super::{answered, answers, cabinet, called, hex, trace_of};
 use crate::Status;
 use nm_outside::{CabinetCall, CabinetFail, ListSink};
 use std::alloc::Global;
@@ -258,5 +260,111 @@ fn its_digest(rt: HostRuntime) -> Result<(), Fail> {
         "42f0c297 e5a2f7bc cafe966f 4460a43d 6994d6e7 5fa31e97 a9f88730 e2748335",
     )?;
     assert_eq!(rt; trace.as_slice().get(62..), Some(digest.as_slice()));
+    Ok(())
+}
+
+// The words that record, the program P, the schedule S, and how many entries the trace has.
+type Recorded = (&'static str, &'static str, &'static str, &'static str);
+
+// The blocks and the summary of what a recording or a replay prints.
+fn blocks_of(printed: &str) -> Option<&str> {
+    let (blocks, _) = printed.split_once("== t")?;
+    Some(blocks)
+}
+
+fn is_replayed(rt: &impl Abort, alloc: Global, row: Recorded) -> Result<(), Fail> {
+    let (line, program, schedule, certificates) = row;
+    let held: [(&str, &[u8]); 2] = [("P", program.as_bytes()), ("S", schedule.as_bytes())];
+    let mut files = cabinet(alloc, &held, 10_000, &[])?;
+    let recorded = called(alloc, line, &mut files)?;
+    assert_eq!(rt; recorded.0, Status::Done, "{line}");
+    let upgraded = called(alloc, "upgrade T N", &mut files)?;
+    assert_eq!(rt; upgraded.0, Status::Done, "{line}");
+    for again in ["replay P T", "replay P N"] {
+        let replayed = called(alloc, again, &mut files)?;
+        assert_eq!(rt; replayed.0, Status::Done, "{line}");
+        assert_eq!(rt; blocks_of(&replayed.1), blocks_of(&recorded.1), "{line}");
+    }
+    let certified = called(alloc, "certify P N", &mut files)?;
+    assert_eq!(rt; certified.0, Status::Done, "{line}");
+    assert_eq!(rt;
+        certified.1.as_str().lines().last(),
+        Some(certificates),
+        "{line}"
+    );
+    Ok(())
+}
+
+/// What was recorded is replayed to its end, from the trace of either version, and each entry has a certificate.
+#[test]
+fn what_was_recorded(rt: HostRuntime) -> Result<(), Fail> {
+    let both = "0*4 0/1 0*4 2*9 0/1 0*9";
+    let backwards =
+        "31*9 30*9 29*9 28*9 27*9 26*9 25*9 24*9 23*9 22*9 21*9 20*9 19*9 18*9 17*9 16*9 15*9 14*9 13*9 \
+        12*9 11*9 10*9 9*9 8*9 7*9 6*9 5*9 4*9 3*9 2*9 1*9 0*200";
+    let table: [Recorded; 6] = [
+        (
+            "record P 3 S T",
+            THREE_RECEIVES,
+            "1*5 2*9 1*6 0*20",
+            "== certificates 2",
+        ),
+        (
+            "record P 3 S T 1",
+            THREE_RECEIVES,
+            "1*11 0*9 2*9 0*20",
+            "== certificates 1",
+        ),
+        (
+            "record P 2 S T",
+            REQUESTS,
+            "0*30 1*30 0*30 1*9",
+            "== certificates 0",
+        ),
+        (
+            "record P 2 S T",
+            TWO_OF_ONE_SENDER,
+            "1*9 0*4 0/1",
+            "== certificates 1",
+        ),
+        ("record P 3 S T", TWO_LETTERS, both, "== certificates 0"),
+        (
+            "record P 32 S T",
+            ALL_TO_ONE,
+            backwards,
+            "== certificates 30",
+        ),
+    ];
+    for row in table {
+        is_replayed(&rt, rt.alloc(), row)?;
+    }
+    Ok(())
+}
+
+/// A trace of more than 16,777,216 bytes is too long, and so is a schedule of more than 4,194,304.
+#[test]
+fn lengths(rt: HostRuntime) -> Result<(), Fail> {
+    let alloc = rt.alloc();
+    let trace = trace_of(alloc, TWO_LETTERS, HEAD, ITEMS)?;
+    let damaged = Status::TraceDamaged;
+    for (length, line, status, printed) in [
+        (16_777_217, "replay P B", Status::TooLong, "too long: B\n"),
+        (
+            16_777_216,
+            "replay P B",
+            damaged,
+            "trace damaged: Magic at 0\n",
+        ),
+        (4_194_305, "replay P T B", Status::TooLong, "too long: B\n"),
+    ] {
+        let blanks = vec![in alloc; b' '; length]?;
+        let held: [(&str, &[u8]); 3] = [
+            ("P", TWO_LETTERS.as_bytes()),
+            ("T", &trace),
+            ("B", &blanks),
+        ];
+        let mut files = cabinet(alloc, &held, 0, &[])?;
+        answers(&rt, alloc, line, &mut files, status, printed)?;
+    }
     Ok(())
 }
