@@ -58,21 +58,29 @@ fn trace_of(alloc: Global, program: &str, head: &str, items: &str) -> Result<Vec
     Ok(bytes)
 }
 
+// Puts a file under its name to the others.
+fn hold(
+    alloc: Global,
+    held: &mut Vec<(String, Vec<u8>)>,
+    name: &str,
+    bytes: &[u8],
+) -> Result<(), Fail> {
+    held.push((
+        String::from_str(alloc, name)?,
+        Vec::from_slice(alloc, bytes)?,
+    ))?;
+    Ok(())
+}
+
 // A cabinet with these files, with so much room for a new one, some of whose calls fail.
 fn cabinet(
     alloc: Global,
-    held: &[(&str, &[u8])],
+    held: Vec<(String, Vec<u8>)>,
     room: u32,
     fails: &[CabinetFail],
 ) -> Result<MemCabinet, Fail> {
-    let mut files = Vec::new(alloc);
-    for (name, bytes) in held {
-        files.push((
-            String::from_str(alloc, name)?,
-            Vec::from_slice(alloc, bytes)?,
-        ))?;
-    }
-    Ok(MemCabinet::new(alloc, files, room, Vec::from_slice(alloc, fails)?)?)
+    let fails = Vec::from_slice(alloc, fails)?;
+    Ok(MemCabinet::new(alloc, held, room, fails)?)
 }
 
 // The status of a call that prints to this sink, and what the sink holds then.
@@ -120,8 +128,10 @@ fn told(
     fails: Vec<CabinetFail>,
     sink_fails: Vec<SinkFail>,
 ) -> Result<(Status, String), Fail> {
-    let held: [(&str, &[u8]); 2] = [("P", &program), ("S", schedule.as_bytes())];
-    let mut files = cabinet(alloc, &held, 0, &fails)?;
+    let mut held = Vec::new(alloc);
+    hold(alloc, &mut held, "P", &program)?;
+    hold(alloc, &mut held, "S", schedule.as_bytes())?;
+    let mut files = MemCabinet::new(alloc, held, 0, fails)?;
     let mut out = ListSink::new(alloc, SINK_ROOM, sink_fails)?;
     answered(alloc, line, &mut files, &mut out)
 }

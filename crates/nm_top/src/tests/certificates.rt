@@ -4,7 +4,7 @@ use super::programs::{
     ONE_LETTER, REQUESTS, THREE_RECEIVES, TO_ITSELF, TWO_LETTERS, TWO_OF_ONE_SENDER,
 };
 use super::replays::{HEAD, ITEMS};
-use super::{SINK_ROOM, answered, answers, cabinet, called, trace_of};
+use super::{SINK_ROOM, answered, answers, cabinet, called, hold, trace_of};
 use crate::Status;
 use nm_outside::{ListSink, SinkFail};
 use std::alloc::Global;
@@ -16,8 +16,10 @@ type Row = (&'static str, &'static str, &'static str, &'static str);
 
 fn certificates_hold(rt: &impl Abort, alloc: Global, row: Row) -> Result<(), Fail> {
     let (line, program, schedule, printed) = row;
-    let held: [(&str, &[u8]); 2] = [("P", program.as_bytes()), ("S", schedule.as_bytes())];
-    let mut files = cabinet(alloc, &held, 1000, &[])?;
+    let mut held = Vec::new(alloc);
+    hold(alloc, &mut held, "P", program.as_bytes())?;
+    hold(alloc, &mut held, "S", schedule.as_bytes())?;
+    let mut files = cabinet(alloc, held, 1000, &[])?;
     assert_eq!(rt; called(alloc, line, &mut files)?.0, Status::Done, "{line}");
     answers(rt, alloc, "certify P T", &mut files, Status::Done, printed)
 }
@@ -89,11 +91,10 @@ fn ordered_races(rt: HostRuntime) -> Result<(), Fail> {
     let second =
         "== letter 1.1 to 0 on 0, receive 2\nearlier receive 1, event 9, set 0x00000001\nturns 0 1 2 0 1 2 0 1 2 0 1 2 1 2 0<1.0 1 0 1 0 1 0 0<1.1\n";
     let printed = format!(in rt.alloc(); "{first}{second}== certificates 2\n")?;
-    let held: [(&str, &[u8]); 2] = [
-        ("P", THREE_RECEIVES.as_bytes()),
-        ("S", b"1*11 2*8 0*8 0/1 0*8"),
-    ];
-    let mut files = cabinet(rt.alloc(), &held, 1000, &[])?;
+    let mut held = Vec::new(rt.alloc());
+    hold(rt.alloc(), &mut held, "P", THREE_RECEIVES.as_bytes())?;
+    hold(rt.alloc(), &mut held, "S", b"1*11 2*8 0*8 0/1 0*8")?;
+    let mut files = cabinet(rt.alloc(), held, 1000, &[])?;
     let status = called(rt.alloc(), "record P 3 S T 1", &mut files)?.0;
     assert_eq!(rt; status, Status::Done);
     let done = Status::Done;
@@ -105,9 +106,11 @@ fn ordered_races(rt: HostRuntime) -> Result<(), Fail> {
 fn failing_puts(rt: HostRuntime) -> Result<(), Fail> {
     let alloc = rt.alloc();
     let trace = trace_of(alloc, TWO_LETTERS, HEAD, ITEMS)?;
-    let held: [(&str, &[u8]); 2] = [("P", TWO_LETTERS.as_bytes()), ("T", &trace)];
+    let mut held = Vec::new(alloc);
+    hold(alloc, &mut held, "P", TWO_LETTERS.as_bytes())?;
+    hold(alloc, &mut held, "T", &trace)?;
+    let mut files = cabinet(alloc, held, 0, &[])?;
     for (nth, kept, printed) in [(1, 0, ""), (1, 9, "== letter")] {
-        let mut files = cabinet(alloc, &held, 0, &[])?;
         let fails = vec![in alloc; SinkFail { nth, kept }]?;
         let mut out = ListSink::new(alloc, SINK_ROOM, fails)?;
         let answer = answered(alloc, "certify P T", &mut files, &mut out)?;
@@ -121,8 +124,10 @@ fn failing_puts(rt: HostRuntime) -> Result<(), Fail> {
 #[test]
 fn a_full_sink(rt: HostRuntime) -> Result<(), Fail> {
     let alloc = rt.alloc();
-    let held: [(&str, &[u8]); 2] = [("P", THREE_RECEIVES.as_bytes()), ("S", b"1*11 2*8 0*17")];
-    let mut files = cabinet(alloc, &held, 1000, &[])?;
+    let mut held = Vec::new(alloc);
+    hold(alloc, &mut held, "P", THREE_RECEIVES.as_bytes())?;
+    hold(alloc, &mut held, "S", b"1*11 2*8 0*17")?;
+    let mut files = cabinet(alloc, held, 1000, &[])?;
     assert_eq!(rt;
         called(alloc, "record P 3 S T", &mut files)?.0,
         Status::Done

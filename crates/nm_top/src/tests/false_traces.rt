@@ -2,7 +2,7 @@
 
 use super::programs::TWO_LETTERS;
 use super::replays::{FINISHED, HEAD};
-use super::{answers, cabinet, trace_of};
+use super::{answers, cabinet, hold, trace_of};
 use crate::Status;
 use std::alloc::Global;
 use std::process::Abort;
@@ -20,8 +20,10 @@ type Row = (
 fn false_trace(rt: &impl Abort, alloc: Global, row: Row) -> Result<(), Fail> {
     let (head, items, line, status, printed) = row;
     let trace = trace_of(alloc, TWO_LETTERS, head, items)?;
-    let held: [(&str, &[u8]); 2] = [("P", TWO_LETTERS.as_bytes()), ("T", &trace)];
-    let mut files = cabinet(alloc, &held, 0, &[])?;
+    let mut held = Vec::new(alloc);
+    hold(alloc, &mut held, "P", TWO_LETTERS.as_bytes())?;
+    hold(alloc, &mut held, "T", &trace)?;
+    let mut files = cabinet(alloc, held, 0, &[])?;
     answers(rt, alloc, line, &mut files, status, printed)?;
     assert_eq!(rt; files.file("T"), Some(trace.as_slice()), "{items}");
     Ok(())

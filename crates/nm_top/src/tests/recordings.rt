@@ -4,7 +4,7 @@ use super::programs::{
     ONE_LETTER, REQUESTS, THREE_RECEIVES, TO_ITSELF, TWO_ADDED, TWO_CHANNELS, TWO_LETTERS,
     TWO_OF_ONE_SENDER,
 };
-use super::{SINK_ROOM, answered, answers, cabinet, hex, trace_of};
+use super::{SINK_ROOM, answered, answers, cabinet, hex, hold, trace_of};
 use crate::Status;
 use nm_outside::{CabinetCall, CabinetFail, ListSink, SinkFail};
 use std::alloc::Global;
@@ -44,8 +44,10 @@ type Row = (
 
 fn recording_holds(rt: &impl Abort, alloc: Global, row: Row) -> Result<(), Fail> {
     let (line, program, schedule, printed, head, items) = row;
-    let held: [(&str, &[u8]); 2] = [("P", program.as_bytes()), ("S", schedule.as_bytes())];
-    let mut files = cabinet(alloc, &held, 1000, &[])?;
+    let mut held = Vec::new(alloc);
+    hold(alloc, &mut held, "P", program.as_bytes())?;
+    hold(alloc, &mut held, "S", schedule.as_bytes())?;
+    let mut files = cabinet(alloc, held, 1000, &[])?;
     answers(rt, alloc, line, &mut files, Status::Done, printed)?;
     let trace = trace_of(alloc, program, head, items)?;
     assert_eq!(rt;
@@ -62,8 +64,10 @@ fn recording_holds(rt: &impl Abort, alloc: Global, row: Row) -> Result<(), Fail>
 #[test]
 fn a_whole_trace(rt: HostRuntime) -> Result<(), Fail> {
     let alloc = rt.alloc();
-    let held: [(&str, &[u8]); 2] = [("P", TWO_LETTERS.as_bytes()), ("S", BOTH_WAIT.as_bytes())];
-    let mut files = cabinet(alloc, &held, 94, &[])?;
+    let mut held = Vec::new(alloc);
+    hold(alloc, &mut held, "P", TWO_LETTERS.as_bytes())?;
+    hold(alloc, &mut held, "S", BOTH_WAIT.as_bytes())?;
+    let mut files = cabinet(alloc, held, 94, &[])?;
     answers(
         &rt,
         alloc,
@@ -236,8 +240,10 @@ fn ordered_holds(
     head: &str,
     items: &str,
 ) -> Result<(), Fail> {
-    let held: [(&str, &[u8]); 2] = [("P", THREE_RECEIVES.as_bytes()), ("S", schedule.as_bytes())];
-    let mut files = cabinet(alloc, &held, 1000, &[])?;
+    let mut held = Vec::new(alloc);
+    hold(alloc, &mut held, "P", THREE_RECEIVES.as_bytes())?;
+    hold(alloc, &mut held, "S", schedule.as_bytes())?;
+    let mut files = cabinet(alloc, held, 1000, &[])?;
     answers(rt, alloc, line, &mut files, Status::Done, printed)?;
     let trace = trace_of(alloc, THREE_RECEIVES, head, items)?;
     assert_eq!(rt; files.file("T"), Some(trace.as_slice()), "{line}");
@@ -272,12 +278,11 @@ fn files_are_written_anew(rt: HostRuntime) -> Result<(), Fail> {
         ("record P 3 S S", "S"),
         ("record P 3 S P", "P"),
     ] {
-        let held: [(&str, &[u8]); 3] = [
-            ("T", b"what stood there"),
-            ("P", TWO_LETTERS.as_bytes()),
-            ("S", BOTH_WAIT.as_bytes()),
-        ];
-        let mut files = cabinet(alloc, &held, 94, &[])?;
+        let mut held = Vec::new(alloc);
+        hold(alloc, &mut held, "T", b"what stood there")?;
+        hold(alloc, &mut held, "P", TWO_LETTERS.as_bytes())?;
+        hold(alloc, &mut held, "S", BOTH_WAIT.as_bytes())?;
+        let mut files = cabinet(alloc, held, 94, &[])?;
         answers(&rt, alloc, line, &mut files, Status::Done, RECORDED)?;
         assert_eq!(rt; files.file(written), Some(trace.as_slice()), "{line}");
     }
@@ -309,8 +314,10 @@ fn refusals_write_nothing(rt: HostRuntime) -> Result<(), Fail> {
         ("record P 33 S T", Status::Usage, "usage\n"),
     ];
     for (line, status, printed) in table {
-        let held: [(&str, &[u8]); 2] = [("P", TWO_LETTERS.as_bytes()), ("S", BOTH_WAIT.as_bytes())];
-        let mut files = cabinet(alloc, &held, 94, &[])?;
+        let mut held = Vec::new(alloc);
+        hold(alloc, &mut held, "P", TWO_LETTERS.as_bytes())?;
+        hold(alloc, &mut held, "S", BOTH_WAIT.as_bytes())?;
+        let mut files = cabinet(alloc, held, 94, &[])?;
         answers(&rt, alloc, line, &mut files, status, printed)?;
         assert_eq!(rt; files.file("T"), None, "{line}");
     }
@@ -326,8 +333,10 @@ fn fails_to_record(
     printed: &str,
     kept: Option<usize>,
 ) -> Result<(), Fail> {
-    let held: [(&str, &[u8]); 2] = [("P", TWO_LETTERS.as_bytes()), ("S", BOTH_WAIT.as_bytes())];
-    let mut files = cabinet(alloc, &held, 1000, &[fail])?;
+    let mut held = Vec::new(alloc);
+    hold(alloc, &mut held, "P", TWO_LETTERS.as_bytes())?;
+    hold(alloc, &mut held, "S", BOTH_WAIT.as_bytes())?;
+    let mut files = cabinet(alloc, held, 1000, &[fail])?;
     answers(rt, alloc, "record P 3 S T", &mut files, status, printed)?;
     let trace = hex(alloc, TRACE)?;
     let front = match kept {
@@ -378,8 +387,10 @@ fn failing_puts(rt: HostRuntime) -> Result<(), Fail> {
     let alloc = rt.alloc();
     let trace = hex(alloc, TRACE)?;
     for (nth, kept, printed) in [(1, 7, "== proc"), (3, 0, "== process 0")] {
-        let held: [(&str, &[u8]); 2] = [("P", TWO_LETTERS.as_bytes()), ("S", BOTH_WAIT.as_bytes())];
-        let mut files = cabinet(alloc, &held, 94, &[])?;
+        let mut held = Vec::new(alloc);
+        hold(alloc, &mut held, "P", TWO_LETTERS.as_bytes())?;
+        hold(alloc, &mut held, "S", BOTH_WAIT.as_bytes())?;
+        let mut files = cabinet(alloc, held, 94, &[])?;
         let fails = vec![in alloc; SinkFail { nth, kept }]?;
         let mut out = ListSink::new(alloc, SINK_ROOM, fails)?;
         let answer = answered(alloc, "record P 3 S T", &mut files, &mut out)?;
@@ -397,8 +408,10 @@ fn too_little_room(rt: HostRuntime) -> Result<(), Fail> {
     let trace = hex(alloc, TRACE)?;
     let table = [(0, 0), (37, 0), (38, 38), (48, 38), (49, 49), (93, 49)];
     for (room, length) in table {
-        let held: [(&str, &[u8]); 2] = [("P", TWO_LETTERS.as_bytes()), ("S", BOTH_WAIT.as_bytes())];
-        let mut files = cabinet(alloc, &held, room, &[])?;
+        let mut held = Vec::new(alloc);
+        hold(alloc, &mut held, "P", TWO_LETTERS.as_bytes())?;
+        hold(alloc, &mut held, "S", BOTH_WAIT.as_bytes())?;
+        let mut files = cabinet(alloc, held, room, &[])?;
         let status = Status::WriteFault;
         answers(&rt, alloc, "record P 3 S T", &mut files, status, "")?;
         assert_eq!(rt; files.file("T"), trace.as_slice().get(..length), "{room}");

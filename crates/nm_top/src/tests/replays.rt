@@ -3,7 +3,7 @@
 use super::programs::{
     ALL_TO_ONE, ONE_LETTER, REQUESTS, THREE_RECEIVES, TWO_LETTERS, TWO_OF_ONE_SENDER,
 };
-use super::{answered, answers, cabinet, called, hex, trace_of};
+use super::{answered, answers, cabinet, called, hex, hold, trace_of};
 use crate::Status;
 use nm_outside::{CabinetCall, CabinetFail, ListSink};
 use std::alloc::Global;
@@ -42,27 +42,25 @@ pub(super) const FINISHED: &str = "\
 fn schedules(rt: HostRuntime) -> Result<(), Fail> {
     let alloc = rt.alloc();
     let none =
-        "== process 0 able, 0 events, 0 bytes\n== process 1 able, 0 events, 0 bytes\n== process 2 able, 0 events, 0 bytes\n== events 0, sent 0, accepted 0, waiting 0\n== turns 0, idle 0\n";
+        "== process 0 able, 0 events, 0 bytes\n== process 1 able, 0 events, 0 bytes\n== process 2 able, 0 events, 0 bytes\n== events 0, sent 0, accepted 0, waiting 0\n";
     let waits =
-        "== process 0 waiting 0x00000001, 3 events, 0 bytes\n== process 1 able, 0 events, 0 bytes\n== process 2 ended 0, 6 events, 0 bytes\n== events 9, sent 1, accepted 0, waiting 1\n== turns 13, idle 4\n";
-    let whole = format!(in alloc; "{RUN}== turns 26, idle 4\n")?;
-    let picks = format!(in alloc; "{RUN}== turns 25, idle 3\n")?;
+        "== process 0 waiting 0x00000001, 3 events, 0 bytes\n== process 1 able, 0 events, 0 bytes\n== process 2 ended 0, 6 events, 0 bytes\n== events 9, sent 1, accepted 0, waiting 1\n";
     let trace = trace_of(alloc, TWO_LETTERS, HEAD, ITEMS)?;
-    let table: [(&str, &str); 4] = [
-        ("2*6 0*4 1*6 0*10", whole.as_str()),
-        ("2*6 1*6 0*3 0/1 0/1 0*8", picks.as_str()),
-        ("2*6 0*7", waits),
-        ("", none),
+    let table = [
+        ("2*6 0*4 1*6 0*10", RUN, "== turns 26, idle 4\n"),
+        ("2*6 1*6 0*3 0/1 0/1 0*8", RUN, "== turns 25, idle 3\n"),
+        ("2*6 0*7", waits, "== turns 13, idle 4\n"),
+        ("", none, "== turns 0, idle 0\n"),
     ];
-    for (schedule, printed) in table {
-        let held: [(&str, &[u8]); 3] = [
-            ("P", TWO_LETTERS.as_bytes()),
-            ("T", &trace),
-            ("S", schedule.as_bytes()),
-        ];
-        let mut files = cabinet(alloc, &held, 0, &[])?;
+    for (schedule, blocks, turns) in table {
+        let mut held = Vec::new(alloc);
+        hold(alloc, &mut held, "P", TWO_LETTERS.as_bytes())?;
+        hold(alloc, &mut held, "T", &trace)?;
+        hold(alloc, &mut held, "S", schedule.as_bytes())?;
+        let mut files = cabinet(alloc, held, 0, &[])?;
+        let printed = format!(in alloc; "{blocks}{turns}")?;
         let status = Status::Done;
-        answers(&rt, alloc, "replay P T S", &mut files, status, printed)?;
+        answers(&rt, alloc, "replay P T S", &mut files, status, &printed)?;
     }
     Ok(())
 }
@@ -72,8 +70,10 @@ fn schedules(rt: HostRuntime) -> Result<(), Fail> {
 fn round_robin(rt: HostRuntime) -> Result<(), Fail> {
     let alloc = rt.alloc();
     let trace = trace_of(alloc, TWO_LETTERS, HEAD, ITEMS)?;
-    let held: [(&str, &[u8]); 2] = [("P", TWO_LETTERS.as_bytes()), ("T", &trace)];
-    let mut files = cabinet(alloc, &held, 0, &[])?;
+    let mut held = Vec::new(alloc);
+    hold(alloc, &mut held, "P", TWO_LETTERS.as_bytes())?;
+    hold(alloc, &mut held, "T", &trace)?;
+    let mut files = cabinet(alloc, held, 0, &[])?;
     answers(&rt, alloc, "replay P T", &mut files, Status::Done, FINISHED)?;
     assert_eq!(rt; files.file("T"), Some(trace.as_slice()));
     Ok(())
@@ -85,12 +85,11 @@ fn counts_are_kept(rt: HostRuntime) -> Result<(), Fail> {
     let alloc = rt.alloc();
     let items = "03 00000002 00000000 00000003";
     let trace = trace_of(alloc, TWO_LETTERS, HEAD, items)?;
-    let held: [(&str, &[u8]); 3] = [
-        ("P", TWO_LETTERS.as_bytes()),
-        ("T", &trace),
-        ("S", b"0*9 1*9 2*9"),
-    ];
-    let mut files = cabinet(alloc, &held, 0, &[])?;
+    let mut held = Vec::new(alloc);
+    hold(alloc, &mut held, "P", TWO_LETTERS.as_bytes())?;
+    hold(alloc, &mut held, "T", &trace)?;
+    hold(alloc, &mut held, "S", b"0*9 1*9 2*9")?;
+    let mut files = cabinet(alloc, held, 0, &[])?;
     let blocks =
         "== process 0 able, 2 events, 0 bytes\n== process 1 able, 0 events, 0 bytes\n== process 2 able, 3 events, 0 bytes\n== events 5, sent 0, accepted 0, waiting 0\n";
     let turns = format!(in alloc; "{blocks}== turns 27, idle 22\n")?;
@@ -112,12 +111,11 @@ fn masks_are_kept(rt: HostRuntime) -> Result<(), Fail> {
     let alloc = rt.alloc();
     let items = "00000001 01 00 00000002 02 00000000 03 00000011 0000000b 00000008";
     let trace = trace_of(alloc, THREE_RECEIVES, "4e4d5452 02 03", items)?;
-    let held: [(&str, &[u8]); 3] = [
-        ("P", THREE_RECEIVES.as_bytes()),
-        ("T", &trace),
-        ("S", b"1*11 2*8 0*4 0/1 0*12"),
-    ];
-    let mut files = cabinet(alloc, &held, 0, &[])?;
+    let mut held = Vec::new(alloc);
+    hold(alloc, &mut held, "P", THREE_RECEIVES.as_bytes())?;
+    hold(alloc, &mut held, "T", &trace)?;
+    hold(alloc, &mut held, "S", b"1*11 2*8 0*4 0/1 0*12")?;
+    let mut files = cabinet(alloc, held, 0, &[])?;
     let printed =
         "== process 0 ended 0, 17 events, 9 bytes\n11\n12\n22\n== process 1 ended 0, 11 events, 0 bytes\n== process 2 ended 0, 8 events, 0 bytes\n== events 36, sent 3, accepted 3, waiting 0\n== turns 36, idle 0\n";
     answers(
@@ -133,8 +131,11 @@ fn masks_are_kept(rt: HostRuntime) -> Result<(), Fail> {
 // The bytes are no trace, for this reason.
 fn is_damaged(rt: &impl Abort, alloc: Global, trace: &[u8], printed: &str) -> Result<(), Fail> {
     for line in ["replay P T", "replay P T S", "certify P T"] {
-        let held: [(&str, &[u8]); 3] = [("P", TWO_LETTERS.as_bytes()), ("T", trace), ("S", b"0")];
-        let mut files = cabinet(alloc, &held, 0, &[])?;
+        let mut held = Vec::new(alloc);
+        hold(alloc, &mut held, "P", TWO_LETTERS.as_bytes())?;
+        hold(alloc, &mut held, "T", trace)?;
+        hold(alloc, &mut held, "S", b"0")?;
+        let mut files = cabinet(alloc, held, 0, &[])?;
         let status = Status::TraceDamaged;
         answers(rt, alloc, line, &mut files, status, printed)?;
     }
@@ -198,13 +199,12 @@ fn order(rt: HostRuntime) -> Result<(), Fail> {
         ),
     ];
     for (line, status, printed) in table {
-        let held: [(&str, &[u8]); 4] = [
-            ("P", TWO_LETTERS.as_bytes()),
-            ("K", ONE_LETTER.as_bytes()),
-            ("T", &trace),
-            ("S", b"0 3 x and no trace"),
-        ];
-        let mut files = cabinet(alloc, &held, 0, &[])?;
+        let mut held = Vec::new(alloc);
+        hold(alloc, &mut held, "P", TWO_LETTERS.as_bytes())?;
+        hold(alloc, &mut held, "K", ONE_LETTER.as_bytes())?;
+        hold(alloc, &mut held, "T", &trace)?;
+        hold(alloc, &mut held, "S", b"0 3 x and no trace")?;
+        let mut files = cabinet(alloc, held, 0, &[])?;
         answers(&rt, alloc, line, &mut files, status, printed)?;
     }
     Ok(())
@@ -225,8 +225,11 @@ fn failing_fetches(rt: HostRuntime) -> Result<(), Fail> {
             nth,
             kept: 0,
         };
-        let held: [(&str, &[u8]); 3] = [("P", TWO_LETTERS.as_bytes()), ("T", &trace), ("S", b"0")];
-        let mut files = cabinet(alloc, &held, 0, &[fail])?;
+        let mut held = Vec::new(alloc);
+        hold(alloc, &mut held, "P", TWO_LETTERS.as_bytes())?;
+        hold(alloc, &mut held, "T", &trace)?;
+        hold(alloc, &mut held, "S", b"0")?;
+        let mut files = cabinet(alloc, held, 0, &[fail])?;
         let status = Status::ReadFault;
         answers(&rt, alloc, "replay P T S", &mut files, status, printed)?;
     }
@@ -239,8 +242,10 @@ fn a_full_sink(rt: HostRuntime) -> Result<(), Fail> {
     let alloc = rt.alloc();
     let trace = trace_of(alloc, TWO_LETTERS, HEAD, ITEMS)?;
     for room in [0, 1, 50, 100, 150] {
-        let held: [(&str, &[u8]); 2] = [("P", TWO_LETTERS.as_bytes()), ("T", &trace)];
-        let mut files = cabinet(alloc, &held, 0, &[])?;
+        let mut held = Vec::new(alloc);
+        hold(alloc, &mut held, "P", TWO_LETTERS.as_bytes())?;
+        hold(alloc, &mut held, "T", &trace)?;
+        let mut files = cabinet(alloc, held, 0, &[])?;
         let mut out = ListSink::new(alloc, room, Vec::new(alloc))?;
         let answer = answered(alloc, "replay P T", &mut files, &mut out)?;
         assert_eq!(rt; answer.0, Status::WriteFault, "{room}");
@@ -274,8 +279,10 @@ fn blocks_of(printed: &str) -> Option<&str> {
 
 fn is_replayed(rt: &impl Abort, alloc: Global, row: Recorded) -> Result<(), Fail> {
     let (line, program, schedule, certificates) = row;
-    let held: [(&str, &[u8]); 2] = [("P", program.as_bytes()), ("S", schedule.as_bytes())];
-    let mut files = cabinet(alloc, &held, 10_000, &[])?;
+    let mut held = Vec::new(alloc);
+    hold(alloc, &mut held, "P", program.as_bytes())?;
+    hold(alloc, &mut held, "S", schedule.as_bytes())?;
+    let mut files = cabinet(alloc, held, 10_000, &[])?;
     let recorded = called(alloc, line, &mut files)?;
     assert_eq!(rt; recorded.0, Status::Done, "{line}");
     let upgraded = called(alloc, "upgrade T N", &mut files)?;
@@ -358,12 +365,11 @@ fn lengths(rt: HostRuntime) -> Result<(), Fail> {
         (4_194_305, "replay P T B", Status::TooLong, "too long: B\n"),
     ] {
         let blanks = vec![in alloc; b' '; length]?;
-        let held: [(&str, &[u8]); 3] = [
-            ("P", TWO_LETTERS.as_bytes()),
-            ("T", &trace),
-            ("B", &blanks),
-        ];
-        let mut files = cabinet(alloc, &held, 0, &[])?;
+        let mut held = Vec::new(alloc);
+        hold(alloc, &mut held, "P", TWO_LETTERS.as_bytes())?;
+        hold(alloc, &mut held, "T", &trace)?;
+        hold(alloc, &mut held, "B", &blanks)?;
+        let mut files = cabinet(alloc, held, 0, &[])?;
         answers(&rt, alloc, line, &mut files, status, printed)?;
     }
     Ok(())

@@ -2,7 +2,7 @@
 
 use super::programs::TWO_LETTERS;
 use super::replays::{FINISHED, HEAD, ITEMS};
-use super::{SINK_ROOM, answered, answers, cabinet, trace_of};
+use super::{SINK_ROOM, answered, answers, cabinet, hold, trace_of};
 use crate::Status;
 use nm_outside::{CabinetCall, CabinetFail, ListSink, SinkFail};
 use std::alloc::Global;
@@ -22,8 +22,10 @@ fn to_a_new_file(rt: HostRuntime) -> Result<(), Fail> {
     let alloc = rt.alloc();
     let old = trace_of(alloc, TWO_LETTERS, HEAD, ITEMS)?;
     let new = trace_of(alloc, TWO_LETTERS, NEW_HEAD, NEW_ITEMS)?;
-    let held: [(&str, &[u8]); 2] = [("P", TWO_LETTERS.as_bytes()), ("T", &old)];
-    let mut files = cabinet(alloc, &held, 98, &[])?;
+    let mut held = Vec::new(alloc);
+    hold(alloc, &mut held, "P", TWO_LETTERS.as_bytes())?;
+    hold(alloc, &mut held, "T", &old)?;
+    let mut files = cabinet(alloc, held, 98, &[])?;
     answers(
         &rt,
         alloc,
@@ -53,8 +55,9 @@ fn onto_itself(rt: HostRuntime) -> Result<(), Fail> {
     let alloc = rt.alloc();
     let old = trace_of(alloc, TWO_LETTERS, HEAD, ITEMS)?;
     let new = trace_of(alloc, TWO_LETTERS, NEW_HEAD, NEW_ITEMS)?;
-    let held: [(&str, &[u8]); 1] = [("T", &old)];
-    let mut files = cabinet(alloc, &held, 98, &[])?;
+    let mut held = Vec::new(alloc);
+    hold(alloc, &mut held, "T", &old)?;
+    let mut files = cabinet(alloc, held, 98, &[])?;
     answers(
         &rt,
         alloc,
@@ -74,8 +77,9 @@ fn a_mask_and_lost_letters(rt: HostRuntime) -> Result<(), Fail> {
     let items =
         "80000001 01 01 00000007 02 00000003 02 00 00000000 02 00 00000005 03 00000001 00000002 00000003";
     let trace = trace_of(alloc, "any text", NEW_HEAD, items)?;
-    let held: [(&str, &[u8]); 1] = [("T", &trace)];
-    let mut files = cabinet(alloc, &held, 1000, &[])?;
+    let mut held = Vec::new(alloc);
+    hold(alloc, &mut held, "T", &trace)?;
+    let mut files = cabinet(alloc, held, 1000, &[])?;
     let printed = "upgraded: notes 1, lost 2, bytes 110\n";
     answers(&rt, alloc, "upgrade T N", &mut files, Status::Done, printed)?;
     assert_eq!(rt; files.file("N"), Some(trace.as_slice()));
@@ -96,8 +100,9 @@ fn refusals(rt: HostRuntime) -> Result<(), Fail> {
         ("upgrade T", Status::Usage, "usage\n"),
     ];
     for (line, status, printed) in table {
-        let held: [(&str, &[u8]); 1] = [("T", front)];
-        let mut files = cabinet(alloc, &held, 1000, &[])?;
+        let mut held = Vec::new(alloc);
+        hold(alloc, &mut held, "T", front)?;
+        let mut files = cabinet(alloc, held, 1000, &[])?;
         answers(&rt, alloc, line, &mut files, status, printed)?;
         assert_eq!(rt; files.file("T"), Some(front), "{line}");
         assert_eq!(rt; files.file("N"), None, "{line}");
@@ -116,8 +121,9 @@ fn fails_to_upgrade(
 ) -> Result<(), Fail> {
     let old = trace_of(alloc, TWO_LETTERS, HEAD, ITEMS)?;
     let new = trace_of(alloc, TWO_LETTERS, NEW_HEAD, NEW_ITEMS)?;
-    let held: [(&str, &[u8]); 1] = [("T", &old)];
-    let mut files = cabinet(alloc, &held, 1000, &[fail])?;
+    let mut held = Vec::new(alloc);
+    hold(alloc, &mut held, "T", &old)?;
+    let mut files = cabinet(alloc, held, 1000, &[fail])?;
     answers(rt, alloc, "upgrade T N", &mut files, status, printed)?;
     let front = match kept {
         Some(length) => new.as_slice().get(..length),
@@ -160,8 +166,9 @@ fn a_failing_put(rt: HostRuntime) -> Result<(), Fail> {
     let alloc = rt.alloc();
     let old = trace_of(alloc, TWO_LETTERS, HEAD, ITEMS)?;
     let new = trace_of(alloc, TWO_LETTERS, NEW_HEAD, NEW_ITEMS)?;
-    let held: [(&str, &[u8]); 1] = [("T", &old)];
-    let mut files = cabinet(alloc, &held, 98, &[])?;
+    let mut held = Vec::new(alloc);
+    hold(alloc, &mut held, "T", &old)?;
+    let mut files = cabinet(alloc, held, 98, &[])?;
     let fails = vec![in alloc; SinkFail { nth: 1, kept: 8 }]?;
     let mut out = ListSink::new(alloc, SINK_ROOM, fails)?;
     let answer = answered(alloc, "upgrade T N", &mut files, &mut out)?;
