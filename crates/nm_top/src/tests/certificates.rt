@@ -32,25 +32,45 @@ fn races(rt: HostRuntime) -> Result<(), Fail> {
             "record P 3 S T",
             TWO_LETTERS,
             "1*6 2*6 0*10",
-            "== letter 2.0 to 0 on 0, receive 1\nearlier receive 0, event 4, set 0x00000001\nturns 0 1 2 0 1 2 0 1 2 1 2 0<2.0\n== certificates 1\n",
+            "\
+== letter 2.0 to 0 on 0, receive 1
+earlier receive 0, event 4, set 0x00000001
+turns 0 1 2 0 1 2 0 1 2 1 2 0<2.0
+== certificates 1
+",
         ),
         (
             "record P 3 S T",
             ONE_LETTER,
             "1*6 2*6 0*7",
-            "== letter 2.0 to 0 on 0, lost\nearlier receive 0, event 4, set 0x00000001\nturns 0 1 2 0 1 2 0 1 2 1 2 0<2.0\n== certificates 1\n",
+            "\
+== letter 2.0 to 0 on 0, lost
+earlier receive 0, event 4, set 0x00000001
+turns 0 1 2 0 1 2 0 1 2 1 2 0<2.0
+== certificates 1
+",
         ),
         (
             "record P 2 S T",
             TWO_OF_ONE_SENDER,
             "1*8 0*3 0/1 0*6",
-            "== letter 1.0 to 0 on 0, receive 1\nearlier receive 0, event 4, set 0x00000001\nturns 0 1 0 1 0 1 1 1 1 0<1.0\n== certificates 1\n",
+            "\
+== letter 1.0 to 0 on 0, receive 1
+earlier receive 0, event 4, set 0x00000001
+turns 0 1 0 1 0 1 1 1 1 0<1.0
+== certificates 1
+",
         ),
         (
             "record P 1 S T",
             TO_ITSELF,
             "0*15",
-            "== letter 0.1 to 0 on 0, receive 1\nearlier receive 0, event 7, set 0x00000001\nturns 0 0 0 0 0 0 0<0.1\n== certificates 1\n",
+            "\
+== letter 0.1 to 0 on 0, receive 1
+earlier receive 0, event 7, set 0x00000001
+turns 0 0 0 0 0 0 0<0.1
+== certificates 1
+",
         ),
     ];
     for row in table {
@@ -86,10 +106,16 @@ fn no_races(rt: HostRuntime) -> Result<(), Fail> {
 /// On an ordered channel the other run keeps the order of one sender's letters.
 #[test]
 fn ordered_races(rt: HostRuntime) -> Result<(), Fail> {
-    let first =
-        "== letter 2.0 to 0 on 0, receive 1\nearlier receive 0, event 5, set 0x00000001\nturns 0 1 2 0 1 2 0 1 2 0 1 2 1 2 0<2.0\n";
-    let second =
-        "== letter 1.1 to 0 on 0, receive 2\nearlier receive 1, event 9, set 0x00000001\nturns 0 1 2 0 1 2 0 1 2 0 1 2 1 2 0<1.0 1 0 1 0 1 0 0<1.1\n";
+    let first = "\
+== letter 2.0 to 0 on 0, receive 1
+earlier receive 0, event 5, set 0x00000001
+turns 0 1 2 0 1 2 0 1 2 0 1 2 1 2 0<2.0
+";
+    let second = "\
+== letter 1.1 to 0 on 0, receive 2
+earlier receive 1, event 9, set 0x00000001
+turns 0 1 2 0 1 2 0 1 2 0 1 2 1 2 0<1.0 1 0 1 0 1 0 0<1.1
+";
     let printed = format!(in rt.alloc(); "{first}{second}== certificates 2\n")?;
     let mut held = Vec::new(rt.alloc());
     hold(rt.alloc(), &mut held, "P", THREE_RECEIVES.as_bytes())?;

@@ -90,7 +90,14 @@ fn races_are_noted(rt: HostRuntime) -> Result<(), Fail> {
             "record P 3 S T",
             TWO_ADDED,
             BOTH_WAIT,
-            "== process 0 ended 0, 10 events, 2 bytes\n3\n== process 1 ended 0, 6 events, 0 bytes\n== process 2 ended 0, 6 events, 0 bytes\n== events 22, sent 2, accepted 2, waiting 0\n== trace notes 1, lost 0, bytes 94\n",
+            "\
+== process 0 ended 0, 10 events, 2 bytes
+3
+== process 1 ended 0, 6 events, 0 bytes
+== process 2 ended 0, 6 events, 0 bytes
+== events 22, sent 2, accepted 2, waiting 0
+== trace notes 1, lost 0, bytes 94
+",
             "4e4d5452 01 03",
             "01 00 00000001 02 00000000 03 0000000a 00000006 00000006",
         ),
@@ -106,7 +113,13 @@ fn races_are_noted(rt: HostRuntime) -> Result<(), Fail> {
             "record P 2 S T",
             TWO_OF_ONE_SENDER,
             "1*8 0*3 0/1 0*6",
-            "== process 0 ended 0, 10 events, 6 bytes\n22 11\n== process 1 ended 0, 8 events, 0 bytes\n== events 18, sent 2, accepted 2, waiting 0\n== trace notes 1, lost 0, bytes 90\n",
+            "\
+== process 0 ended 0, 10 events, 6 bytes
+22 11
+== process 1 ended 0, 8 events, 0 bytes
+== events 18, sent 2, accepted 2, waiting 0
+== trace notes 1, lost 0, bytes 90
+",
             "4e4d5452 01 02",
             "01 00 00000001 01 00000000 03 0000000a 00000008",
         ),
@@ -114,7 +127,11 @@ fn races_are_noted(rt: HostRuntime) -> Result<(), Fail> {
             "record P 1 S T",
             TO_ITSELF,
             "0*15",
-            "== process 0 ended 0, 15 events, 0 bytes\n== events 15, sent 3, accepted 3, waiting 0\n== trace notes 1, lost 0, bytes 86\n",
+            "\
+== process 0 ended 0, 15 events, 0 bytes
+== events 15, sent 3, accepted 3, waiting 0
+== trace notes 1, lost 0, bytes 86
+",
             "4e4d5452 01 01",
             "01 00 00000001 00 00000001 03 0000000f",
         ),
@@ -128,8 +145,14 @@ fn races_are_noted(rt: HostRuntime) -> Result<(), Fail> {
 /// A letter that might have come first and was never received stands behind the notes.
 #[test]
 fn lost_letters_are_written(rt: HostRuntime) -> Result<(), Fail> {
-    let printed =
-        "== process 0 ended 0, 7 events, 2 bytes\n1\n== process 1 ended 0, 6 events, 0 bytes\n== process 2 ended 0, 6 events, 0 bytes\n== events 19, sent 2, accepted 1, waiting 1\n== trace notes 0, lost 1, bytes 89\n";
+    let printed = "\
+== process 0 ended 0, 7 events, 2 bytes
+1
+== process 1 ended 0, 6 events, 0 bytes
+== process 2 ended 0, 6 events, 0 bytes
+== events 19, sent 2, accepted 1, waiting 1
+== trace notes 0, lost 1, bytes 89
+";
     let row = (
         "record P 3 S T",
         ONE_LETTER,
@@ -149,7 +172,12 @@ fn what_did_not_race_is_left_out(rt: HostRuntime) -> Result<(), Fail> {
             "record P 2 S T",
             REQUESTS,
             "0*30 1*30 0*30 1*30 0*30",
-            "== process 0 ended 0, 16 events, 0 bytes\n== process 1 ended 0, 16 events, 0 bytes\n== events 32, sent 4, accepted 4, waiting 0\n== trace notes 0, lost 0, bytes 79\n",
+            "\
+== process 0 ended 0, 16 events, 0 bytes
+== process 1 ended 0, 16 events, 0 bytes
+== events 32, sent 4, accepted 4, waiting 0
+== trace notes 0, lost 0, bytes 79
+",
             "4e4d5452 01 02",
             "03 00000010 00000010",
         ),
@@ -157,7 +185,11 @@ fn what_did_not_race_is_left_out(rt: HostRuntime) -> Result<(), Fail> {
             "record P 1 S T",
             TWO_LETTERS,
             "0*9",
-            "== process 0 waiting 0x00000001, 3 events, 0 bytes\n== events 3, sent 0, accepted 0, waiting 0\n== trace notes 0, lost 0, bytes 75\n",
+            "\
+== process 0 waiting 0x00000001, 3 events, 0 bytes
+== events 3, sent 0, accepted 0, waiting 0
+== trace notes 0, lost 0, bytes 75
+",
             "4e4d5452 01 01",
             "03 00000003",
         ),
@@ -165,7 +197,13 @@ fn what_did_not_race_is_left_out(rt: HostRuntime) -> Result<(), Fail> {
             "record P 3 S T",
             TWO_LETTERS,
             "",
-            "== process 0 able, 0 events, 0 bytes\n== process 1 able, 0 events, 0 bytes\n== process 2 able, 0 events, 0 bytes\n== events 0, sent 0, accepted 0, waiting 0\n== trace notes 0, lost 0, bytes 83\n",
+            "\
+== process 0 able, 0 events, 0 bytes
+== process 1 able, 0 events, 0 bytes
+== process 2 able, 0 events, 0 bytes
+== events 0, sent 0, accepted 0, waiting 0
+== trace notes 0, lost 0, bytes 83
+",
             "4e4d5452 01 03",
             "03 00000000 00000000 00000000",
         ),
@@ -173,7 +211,13 @@ fn what_did_not_race_is_left_out(rt: HostRuntime) -> Result<(), Fail> {
             "record P 3 S T",
             TWO_CHANNELS,
             "1*6 2*6 0*8",
-            "== process 0 ended 0, 8 events, 0 bytes\n== process 1 ended 0, 6 events, 0 bytes\n== process 2 ended 0, 6 events, 0 bytes\n== events 20, sent 2, accepted 2, waiting 0\n== trace notes 0, lost 0, bytes 83\n",
+            "\
+== process 0 ended 0, 8 events, 0 bytes
+== process 1 ended 0, 6 events, 0 bytes
+== process 2 ended 0, 6 events, 0 bytes
+== events 20, sent 2, accepted 2, waiting 0
+== trace notes 0, lost 0, bytes 83
+",
             "4e4d5452 01 03",
             "03 00000008 00000006 00000006",
         ),
@@ -187,8 +231,15 @@ fn what_did_not_race_is_left_out(rt: HostRuntime) -> Result<(), Fail> {
 /// With a mask the trace is of version 2, also where the mask is 0, and on an ordered channel fewer letters race.
 #[test]
 fn masks_are_written(rt: HostRuntime) -> Result<(), Fail> {
-    let in_turn =
-        "== process 0 ended 0, 17 events, 9 bytes\n11\n12\n22\n== process 1 ended 0, 11 events, 0 bytes\n== process 2 ended 0, 8 events, 0 bytes\n== events 36, sent 3, accepted 3, waiting 0\n";
+    let in_turn = "\
+== process 0 ended 0, 17 events, 9 bytes
+11
+12
+22
+== process 1 ended 0, 11 events, 0 bytes
+== process 2 ended 0, 8 events, 0 bytes
+== events 36, sent 3, accepted 3, waiting 0
+";
     let table: [(&'static str, &'static str, &'static str, &'static str); 4] = [
         (
             "record P 3 S T",
@@ -253,8 +304,16 @@ fn ordered_holds(
 /// On an ordered channel a letter is noted where the letter of another sender was taken between it and the one before.
 #[test]
 fn a_letter_between_two_of_one_sender(rt: HostRuntime) -> Result<(), Fail> {
-    let printed =
-        "== process 0 ended 0, 17 events, 9 bytes\n11\n22\n12\n== process 1 ended 0, 11 events, 0 bytes\n== process 2 ended 0, 8 events, 0 bytes\n== events 36, sent 3, accepted 3, waiting 0\n== trace notes 2, lost 0, bytes 109\n";
+    let printed = "\
+== process 0 ended 0, 17 events, 9 bytes
+11
+22
+12
+== process 1 ended 0, 11 events, 0 bytes
+== process 2 ended 0, 8 events, 0 bytes
+== events 36, sent 3, accepted 3, waiting 0
+== trace notes 2, lost 0, bytes 109
+";
     let items =
         "00000001 01 00 00000001 02 00000000 01 00 00000002 01 00000001 03 00000011 0000000b 00000008";
     ordered_holds(

@@ -41,10 +41,18 @@ pub(super) const FINISHED: &str = "\
 #[test]
 fn schedules(rt: HostRuntime) -> Result<(), Fail> {
     let alloc = rt.alloc();
-    let none =
-        "== process 0 able, 0 events, 0 bytes\n== process 1 able, 0 events, 0 bytes\n== process 2 able, 0 events, 0 bytes\n== events 0, sent 0, accepted 0, waiting 0\n";
-    let waits =
-        "== process 0 waiting 0x00000001, 3 events, 0 bytes\n== process 1 able, 0 events, 0 bytes\n== process 2 ended 0, 6 events, 0 bytes\n== events 9, sent 1, accepted 0, waiting 1\n";
+    let none = "\
+== process 0 able, 0 events, 0 bytes
+== process 1 able, 0 events, 0 bytes
+== process 2 able, 0 events, 0 bytes
+== events 0, sent 0, accepted 0, waiting 0
+";
+    let waits = "\
+== process 0 waiting 0x00000001, 3 events, 0 bytes
+== process 1 able, 0 events, 0 bytes
+== process 2 ended 0, 6 events, 0 bytes
+== events 9, sent 1, accepted 0, waiting 1
+";
     let trace = trace_of(alloc, TWO_LETTERS, HEAD, ITEMS)?;
     let table = [
         ("2*6 0*4 1*6 0*10", RUN, "== turns 26, idle 4\n"),
@@ -90,8 +98,12 @@ fn counts_are_kept(rt: HostRuntime) -> Result<(), Fail> {
     hold(alloc, &mut held, "T", &trace)?;
     hold(alloc, &mut held, "S", b"0*9 1*9 2*9")?;
     let mut files = cabinet(alloc, held, 0, &[])?;
-    let blocks =
-        "== process 0 able, 2 events, 0 bytes\n== process 1 able, 0 events, 0 bytes\n== process 2 able, 3 events, 0 bytes\n== events 5, sent 0, accepted 0, waiting 0\n";
+    let blocks = "\
+== process 0 able, 2 events, 0 bytes
+== process 1 able, 0 events, 0 bytes
+== process 2 able, 3 events, 0 bytes
+== events 5, sent 0, accepted 0, waiting 0
+";
     let turns = format!(in alloc; "{blocks}== turns 27, idle 22\n")?;
     answers(&rt, alloc, "replay P T S", &mut files, Status::Done, &turns)?;
     let finished = format!(in alloc; "{blocks}== turns 9, idle 4\n")?;
@@ -116,8 +128,16 @@ fn masks_are_kept(rt: HostRuntime) -> Result<(), Fail> {
     hold(alloc, &mut held, "T", &trace)?;
     hold(alloc, &mut held, "S", b"1*11 2*8 0*4 0/1 0*12")?;
     let mut files = cabinet(alloc, held, 0, &[])?;
-    let printed =
-        "== process 0 ended 0, 17 events, 9 bytes\n11\n12\n22\n== process 1 ended 0, 11 events, 0 bytes\n== process 2 ended 0, 8 events, 0 bytes\n== events 36, sent 3, accepted 3, waiting 0\n== turns 36, idle 0\n";
+    let printed = "\
+== process 0 ended 0, 17 events, 9 bytes
+11
+12
+22
+== process 1 ended 0, 11 events, 0 bytes
+== process 2 ended 0, 8 events, 0 bytes
+== events 36, sent 3, accepted 3, waiting 0
+== turns 36, idle 0
+";
     answers(
         &rt,
         alloc,
@@ -169,8 +189,8 @@ fn damage(rt: HostRuntime) -> Result<(), Fail> {
 fn order(rt: HostRuntime) -> Result<(), Fail> {
     let alloc = rt.alloc();
     let trace = trace_of(alloc, TWO_LETTERS, HEAD, ITEMS)?;
-    let other =
-        "other program: 890bf96357556c0a66342b55894d1ceb84da0ea888663d4751de4f3f6766c67c d6a93739bb627c762da4be50129e12127eab516c4a2dd3e855730d2a7d3479ac\n";
+    let other = "other program: 890bf96357556c0a66342b55894d1ceb84da0ea888663d4751de4f3f6766c67c \
+        d6a93739bb627c762da4be50129e12127eab516c4a2dd3e855730d2a7d3479ac\n";
     let no_program = "program refused: Syntax at line 1\n";
     let table = [
         ("replay N N N", Status::Absent, "absent: N\n"),
