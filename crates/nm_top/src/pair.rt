@@ -1,6 +1,7 @@
 //! A program and a trace of it.
 
-ghost use Rattle.std.specs.Prelude.{◌≡◌, List, ℕ, [], IfSome, IfOk, IfErr, OnOk};
+ghost use Rattle.std.specs.Prelude.{◌≡◌, ◌≤◌, ◌+◌, List, ℕ, [], length, IfSome, IfOk, IfErr, OnOk};
+ghost use Rattle.nm_base.specs.declared.limits.TheConstants.{MAX_TRACE_BYTES};
 ghost use Rattle.nm_outside.specs.Files.{Files};
 ghost use Rattle.trace_file.specs.Rules.{IsTrace};
 ghost use Rattle.nm_top.specs.Answers.{pair_demands};
@@ -49,6 +50,7 @@ pub fn pair_in<'a, C: Cabinet>(
         Gives (λ pair. AreReplayed held program.now trace.now pair.program pair.trace)
         (pair_demands program.now trace.now) held result) }
     ensures trace { IfOk result (λ pair. IsTrace pair.trace) }
+    ensures few { IfOk result (λ pair. length pair.trace.notes + length pair.trace.lost ≤ MAX_TRACE_BYTES) }
     ensures counts { Counts (IsFetched (pair_demands program.now trace.now)) (C.absents files.old)
         (C.absents files.new) (C.read_faults files.old) (C.read_faults files.new) result }
     ensures files { C.files files.new ≡ C.files files.old }
