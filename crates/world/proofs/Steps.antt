@@ -476,7 +476,7 @@ module _ {P M : Type 0} (stands_for : P → Standing) (name_of : P → ProcNo) w
     one_letter k l ck cl e = letter_same (runs_sound s h.lawful h.run) (message_of k) (message_of l) (in_waiting E (message_of k) (waits w s E h k ck)).0 (in_waiting E (message_of l) (waits w s E h l cl)).0 e
 
     -- what is free in the mail is free in the list
-    first_is : (l : Letter) → Contains w.letters l → mail.is_first w.letters l ≡ is_first E (message_of l)
+    pub first_is : (l : Letter) → Contains w.letters l → mail.is_first w.letters l ≡ is_first E (message_of l)
     first_is l c =
         ap not (any_same (λ k. mail.precedes k l) (λ k. precedes (message_of k) (message_of l)) w.letters (λ k d. one k l d c)
         ∙ sym (any_map message_of (λ m. precedes m (message_of l)) w.letters) ∙ ap (list_any (λ m. precedes m (message_of l))) h.mail)

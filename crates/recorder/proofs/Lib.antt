@@ -1,0 +1,11 @@
+pub mod Holding
+pub mod NoteLaws
+pub mod Contents
+pub mod LostLaws
+pub mod TurnLaws
+pub mod EndLaws
+pub mod StartLaws
+pub mod RunLaws
+pub mod RecordLaws
+pub mod RuleLaws
+pub mod Growing
