@@ -1,0 +1,3 @@
+pub mod GateLaws
+pub mod ReplayLaws
+pub mod RoundLaws

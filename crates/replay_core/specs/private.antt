@@ -1,0 +1,3 @@
+-- Definitions of private contracts and proofs.
+pub mod Held
+pub mod Rounds
