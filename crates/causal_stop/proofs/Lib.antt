@@ -1,0 +1,4 @@
+pub mod NumberFacts
+pub mod FreeFacts
+pub mod PastFacts
+pub mod PlaceFacts

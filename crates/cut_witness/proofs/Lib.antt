@@ -1,0 +1,10 @@
+pub mod ComparingFacts
+pub mod EarlierFacts
+pub mod EntryFacts
+pub mod KeptFacts
+pub mod LawFacts
+pub mod ListingFacts
+pub mod LookupFacts
+pub mod MakingFacts
+pub mod QueryFacts
+pub mod WorkedFacts

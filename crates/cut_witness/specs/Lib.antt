@@ -1,0 +1,4 @@
+pub mod Certificates
+pub mod Comparisons
+pub mod Laws
+pub mod private

@@ -1,0 +1,4 @@
+pub mod Findings
+pub mod Lookups
+pub mod Queries
+pub mod Steps

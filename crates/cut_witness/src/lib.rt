@@ -1,0 +1,21 @@
+//! Certificates: for a logged letter a run that keeps the pasts of its send and of the last receive that
+//! could have taken it, and in which that receive takes it.
+#![tactic(auto)]
+
+mod certificates;
+mod comparing;
+mod comparisons;
+mod earlier;
+mod kept;
+pub mod laws;
+mod listing;
+mod lookups;
+mod making;
+mod query;
+#[cfg(test)]
+mod tests;
+
+pub use certificates::{Witness, WitnessTurn};
+pub use comparing::compare;
+pub use comparisons::Compared;
+pub use making::witness;
