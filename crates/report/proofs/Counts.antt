@@ -1,60 +1,22 @@
 -- How many letters were sent, were accepted and wait.
-use Rattle.std.proofs.Common.{
-  ◌≡◌,
-  ◌≢◌,
-  ℕ,
-  zero,
-  suc,
-  ◌+◌,
-  ◌-◌,
-  ◌^◌,
-  min,
-  add-one,
-  ◌<◌,
-  ◌≤◌,
-  Bool,
-  true,
-  false,
-  cond,
-  List,
-  [],
-  ◌∷◌,
-  ◌++◌,
-  length,
-  Option,
-  Some,
-  None,
-  refl,
-  sym,
-  ap,
-  ◌∙◌,
-  inl,
-  inr,
-  arith,
-  length-append,
-}
-use Rattle.std.specs.Prelude.{Contains, filter, ◌==◌}
+use Rattle.std.proofs.Common.{◌≡◌, ℕ, ◌+◌, List, [], ◌∷◌, ◌++◌, length, Option, Some, None, refl, sym, ap, ◌∙◌, arith, length-append}
 use Rattle.std.specs.List.{cons_option}
 use Rattle.std.proofs.lemmas.List.{append-nil}
-use Rattle.std.proofs.lemmas.Bool.{eqb-true, eqb-false}
 use Rattle.nm_base.specs.declared.letter.LetterId.{LetterId}
 use Rattle.nm_base.specs.Fitting.{none, more}
 use Rattle.nm_base.specs.Message.{Message}
 use Rattle.event_list.specs.declared.Event.{Event}
-use Rattle.event_list.specs.Events.{entries, receives, letters, letter_of, taken, taken_of}
+use Rattle.event_list.specs.Events.{letters, letter_of, taken, taken_of}
 use Rattle.event_list.specs.Runs.{Sound}
 use Rattle.event_list.specs.Traces.{waiting}
-use Rattle.event_list.specs.Turns.{sum_below}
 use Rattle.event_list.proofs.Entries.{taken_grows, letters_grow}
 use Rattle.event_list.proofs.Growth.{waiting_made, waiting_taken}
 use Rattle.event_list.proofs.Links.{accepts_from}
 use Rattle.event_list.proofs.TraceFacts.{waits_in}
-use Rattle.std.specs.Prelude.{◌⊎◌}
-use Rattle.world.proofs.Places.{filter_map_le}
 use Rattle.event_list.proofs.RaceLaw.{no_letter}
 use Rattle.event_list.proofs.Splits.{contains_split}
 use Rattle.nm_base.specs.declared.kind.Kind.TheVariants.{Accepted}
-use Rattle.event_list.proofs.Members.{cons_here, cons_there}
+use Rattle.event_list.proofs.Members.{cons_here}
 
 -- ---- what waits
 

@@ -79,6 +79,13 @@ pub failed_on : (a b : Option (List ℕ)) (f g : ℕ) (x : List ℕ) (r s : Resu
 failed_on a b f g x r (Err e') e is fails h = let given = subst (Prints a b f g x) is h in record { ok = tt; err = given.err; cause = given.cause }
 failed_on a b f g x r (Ok done) e is fails h = cc
 
+-- the first of two texts failed
+pub failed_first : (a b : Option (List ℕ)) (f g : ℕ) (x y : List ℕ) (r s : Result ⊤ Failed) (e : Failed) → r ≡ Err e → IsErr s → Prints a b f g x r → Prints a b f g (x ++ y) s
+failed_first a b f g x y r s e is fails h = still_failed a b f g x y s fails (failed_on a b f g x r s e is fails h)
+
+pub same_text : (a b : Option (List ℕ)) (f g : ℕ) (x y : List ℕ) (r : Result ⊤ Failed) → x ≡ y → Prints a b f g x r → Prints a b f g y r
+same_text a b f g x y r is h = subst (λ t. Prints a b f g t r) is h
+
 -- the first of two texts was given, and what the second did is the answer
 pub both : (a b c : Option (List ℕ)) (f g h : ℕ) (x y : List ℕ) (r s : Result ⊤ Failed) → r ≡ Ok tt → Prints a b f g x r → Prints b c g h y s → Prints a c f h (x ++ y) s
 both a b c f g h x y r s is one two = prints_more a b c f g h x y s (subst (Prints a b f g x) is one) two

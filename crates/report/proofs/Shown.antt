@@ -1,5 +1,5 @@
 -- What a process of the world shows is what the program says.
-use Rattle.std.proofs.Common.{◌≡◌, ℕ, zero, suc, ◌+◌, ◌<◌, List, [], ◌∷◌, ◌++◌, length, Option, Some, Result, Ok, Err, refl, sym, ap, ◌∙◌, subst, inl, inr, arith, append_assoc, append-nil, add-one}
+use Rattle.std.proofs.Common.{◌≡◌, ℕ, zero, suc, ◌+◌, ◌<◌, List, [], ◌∷◌, ◌++◌, length, Option, Some, Result, Ok, Err, sym, ap, ◌∙◌, subst, inl, inr, arith, append_assoc, append-nil, add-one}
 use Rattle.std.specs.Prelude.{slice_get, ⊤, ◌⊎◌}
 use Rattle.std.specs.Result.{IsErr}
 use Rattle.std.specs.List.{flat_map, range_with_len}
@@ -8,10 +8,9 @@ use Rattle.processes.specs.declared.proc.Look.{Look}
 use Rattle.report.specs.Printing.{Prints}
 use Rattle.report.specs.Texts.{block, summary}
 use Rattle.report.proofs.Pieces.{prints_more, still_failed, failed_on}
+use Rattle.report.proofs.Each.{flat_append}
 use Rattle.nm_base.specs.declared.letter.ProcNo.{ProcNo}
-use Rattle.nm_base.specs.declared.letter.Letter.{Letter}
 use Rattle.nm_base.specs.Message.{Message}
-use Rattle.nm_base.specs.Scripts.{Script}
 use Rattle.c_tree.specs.declared.program.Program.{Program}
 use Rattle.c_tree.specs.Play.{script_of}
 use Rattle.stack_code.specs.Code.{Code}
@@ -52,10 +51,6 @@ prints_block a b f g p look look' line line' events events' output output' r k l
 range_more : (a n : ℕ) → range_with_len a (suc n) ≡ range_with_len a n ++ (a + n) ∷ []
 range_more a zero = let none : a ≡ a + 0 = omega arith in ap (λ k. k ∷ []) none
 range_more a (suc n) = let next : (a + 1) + n ≡ a + suc n = omega arith in ap (λ (l : List ℕ). a ∷ l) (range_more (a + 1) n ∙ ap (λ k. range_with_len (a + 1) n ++ k ∷ []) next)
-
-flat_append : (f : ℕ → List ℕ) (xs ys : List ℕ) → flat_map f (xs ++ ys) ≡ flat_map f xs ++ flat_map f ys
-flat_append f [] ys = refl
-flat_append f (x ∷ xs) ys = ap (λ (zs : List ℕ). f x ++ zs) (flat_append f xs ys) ∙ sym (append_assoc (f x) (flat_map f xs) (flat_map f ys))
 
 pub blocks_more : (f : ℕ → List ℕ) (n : ℕ) → flat_map f (range_with_len 0 (suc n)) ≡ flat_map f (range_with_len 0 n) ++ f n
 blocks_more f n =

@@ -1,3 +1,4 @@
 pub mod Printing
 pub mod Texts
 pub mod Runs
+pub mod Follows

@@ -1,7 +1,11 @@
 //! The texts, through a sink in memory.
 
-use crate::{Refusal, block, refusal, summary};
-use nm_base::FaultCause;
+use crate::{
+    Refusal, block, certificate, certificates_line, refusal, stopped_line, summary, trace_line,
+    turns_line, upgraded_line,
+};
+use cut_witness::{Witness, WitnessTurn};
+use nm_base::{FaultCause, LetterId, List, ProcNo};
 use nm_outside::{ListSink, SinkFail};
 use processes::Look;
 use std::alloc::Global;
@@ -82,6 +86,39 @@ fn lines(rt: HostRuntime) -> Result<(), Fail> {
             },
             "schedule refused: BadWord at 0\n",
         ),
+        (
+            Refusal::TraceDamaged {
+                kind: "Digest",
+                place: 62,
+            },
+            "trace damaged: Digest at 62\n",
+        ),
+        (
+            Refusal::OtherProgram {
+                of_trace: [0xa9; 32],
+                of_file: [15; 32],
+            },
+            "other program: a9a9a9a9a9a9a9a9a9a9a9a9a9a9a9a9a9a9a9a9a9a9a9a9a9a9a9a9a9a9a9a9 \
+             0f0f0f0f0f0f0f0f0f0f0f0f0f0f0f0f0f0f0f0f0f0f0f0f0f0f0f0f0f0f0f0f\n",
+        ),
+        (
+            Refusal::Stuck {
+                n: 2,
+                events: [3; 32],
+                counts: [4; 32],
+            },
+            "stuck: 3/4 3/4\n",
+        ),
+        (
+            Refusal::Stopped { turns: 17 },
+            "stopped: want of memory after 17 turns\n",
+        ),
+        (
+            Refusal::NotItsTrace {
+                letter: letter(1, 0),
+            },
+            "not its trace: letter 1.0\n",
+        ),
     ];
     for (refused, text) in table {
         let mut out = sink(alloc)?;
@@ -94,6 +131,76 @@ fn lines(rt: HostRuntime) -> Result<(), Fail> {
         out.bytes(),
         b"== events 14, sent 2, accepted 2, waiting 0\n".as_slice()
     );
+    Ok(())
+}
+
+fn letter(sender: u8, number: u32) -> LetterId {
+    LetterId {
+        sender: ProcNo { no: sender },
+        number,
+    }
+}
+
+#[test]
+fn lines_of_traces(rt: HostRuntime) -> Result<(), Fail> {
+    let alloc = rt.alloc();
+    let mut out = sink(alloc)?;
+    assert!(rt; trace_line(&mut out, 1, 0, 94).is_ok());
+    assert!(rt; turns_line(&mut out, 31, 9).is_ok());
+    assert!(rt; stopped_line(&mut out, 200).is_ok());
+    assert!(rt; upgraded_line(&mut out, 1, 2, 98).is_ok());
+    assert!(rt; certificates_line(&mut out, 1).is_ok());
+    assert_eq!(rt;
+        out.bytes(),
+        b"== trace notes 1, lost 0, bytes 94\n== turns 31, idle 9\nstopped: want of memory after 200 turns\nupgraded: notes 1, lost 2, bytes 98\n== certificates 1\n".as_slice()
+    );
+    Ok(())
+}
+
+/// Turns of these processes, and last one of process 0 that accepts letter 2.0.
+fn turns_to(alloc: Global, processes: &[u8]) -> Result<List<WitnessTurn>, Fail> {
+    let mut turns = Vec::new(alloc);
+    for no in processes {
+        turns.push(WitnessTurn {
+            proc: ProcNo { no: *no },
+            took: None,
+        })?;
+    }
+    turns.push(WitnessTurn {
+        proc: ProcNo { no: 0 },
+        took: Some(letter(2, 0)),
+    })?;
+    Ok(List::from_vec(turns))
+}
+
+#[test]
+fn certificates(rt: HostRuntime) -> Result<(), Fail> {
+    let alloc = rt.alloc();
+    let table = [
+        (
+            Some(1),
+            "== letter 2.0 to 0 on 0, receive 1\nearlier receive 0, event 4, set 0x00000001\nturns 0 1 2 0 1 2 0 1 2 1 2 0<2.0\n",
+        ),
+        (
+            None,
+            "== letter 2.0 to 0 on 0, lost\nearlier receive 0, event 4, set 0x00000001\nturns 0 1 2 0 1 2 0 1 2 1 2 0<2.0\n",
+        ),
+    ];
+    for (received, text) in table {
+        let w = Witness {
+            id: letter(2, 0),
+            dest: ProcNo { no: 0 },
+            chan: 0,
+            received,
+            earlier_receive: 0,
+            earlier_event: 4,
+            set: 1,
+            turns: turns_to(alloc, &[0, 1, 2, 0, 1, 2, 0, 1, 2, 1, 2])?,
+        };
+        let mut out = sink(alloc)?;
+        assert!(rt; certificate(&mut out, &w).is_ok());
+        assert_eq!(rt; out.bytes(), text.as_bytes());
+    }
     Ok(())
 }
 

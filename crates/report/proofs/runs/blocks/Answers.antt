@@ -1,10 +1,10 @@
-use Rattle.std.proofs.Common.{length, arith, refl, ◌∙◌, subst}
+use Rattle.std.proofs.Common.{length, arith, refl, ◌∙◌}
 use Rattle.c_tree.specs.Play.{script_of}
 use Rattle.event_list.specs.Events.{letters, taken}
 use Rattle.event_list.specs.Traces.{waiting}
 use Rattle.event_list.proofs.RunsSound.{runs_sound}
 use Rattle.report.specs.Runs.{all_blocks, summary_of}
-use Rattle.report.proofs.Pieces.{still_failed, failed_on, both, still_after, failed_after}
+use Rattle.report.proofs.Pieces.{still_failed, failed_on, both, failed_after}
 use Rattle.report.proofs.Shown.{prints_summary}
 use Rattle.report.proofs.Counts.{sent_letters}
 use Rattle.report.proofs.runs.blocks.Goals as goal
