@@ -1,10 +1,11 @@
 -- What a command that was carried out answers.
-use Rattle.std.proofs.Common.{◌≡◌, ◌≢◌, ℕ, List, take, Bool, true, false, Option, None, Some, Ok, Err, IfSome, MatchOption, inl, inr, refl, sym, ap, ◌∙◌, subst}
+use Rattle.std.proofs.Common.{◌≡◌, ◌≢◌, ◌⊎◌, ℕ, zero, suc, List, [], ◌∷◌, ◌++◌, Bool, true, false, Option, None, Some, Ok, Err, IfSome, MatchOption, inl, inr, refl, sym, ap, ◌∙◌, subst, arith, append-nil}
+use Rattle.std.specs.Prelude.{take}
+use Rattle.std.proofs.lemmas.Option.{IfSome_then}
 use Rattle.std.specs.Io.KnownBytes.{Appends}
-use Rattle.std.specs.Option.{IsSomeAnd}
-use Rattle.std.proofs.lemmas.Bool.{false≢true}
+use Rattle.std.specs.Option.{IsSomeAnd, option_and_then}
 use Rattle.nm_outside.specs.Causes.{BelongsTo, Rose}
-use Rattle.nm_outside.specs.Files.{Files}
+use Rattle.nm_outside.specs.Files.{Files, AppendsPart}
 use Rattle.report.specs.declared.cause.Refusal.{Refusal}
 use Rattle.report.specs.declared.cause.Refusal.TheVariants as refusals
 use Rattle.report.specs.Texts.{usage_line, refusal_line}
@@ -13,138 +14,306 @@ use Rattle.nm_top.specs.declared.status.Status.TheVariants as statuses
 use Rattle.nm_top.specs.declared.stop.Stop.{Stop}
 use Rattle.nm_top.specs.declared.stop.Stop.TheVariants.{Refused, Memory}
 use Rattle.nm_top.specs.Commands.{Command, command_of}
-use Rattle.nm_top.specs.Statuses.{status_of, IsOf, IsLineOf, PrintsLine}
-use Rattle.nm_top.specs.Replies.{Reply, Says, Answers, MayPrint, PrintsPart}
-use Rattle.nm_top.specs.Demands.{IsFetched}
-use Rattle.nm_top.specs.Answers.{CommandAnswer, Answer, Fetches, demands_of}
+use Rattle.nm_top.specs.Statuses.{status_of, IsOf}
+use Rattle.nm_top.specs.Lines.{IsLineOf, MayStopAt, PrintsLine}
+use Rattle.nm_top.specs.Replies.{Reply, reply, Says, Answers, CutShort, Breaks, KeepsOthers}
+use Rattle.nm_top.specs.Demands.{Demand, Fetch, fetch_of, IsFetched}
+use Rattle.nm_top.specs.Answers.{CommandAnswer, Demanding, IsDone, Answer, Fetches, IsBroken, IsEnough, MayBreak, Suffices, demands_of, written_of}
 use Rattle.nm_top.specs.private.Works.{
   Work,
+  Whole,
+  Refusing,
+  Short,
+  Broken,
   Works,
   Stops,
-  Blames,
+  StopBlames,
   is_absence,
   is_fault,
-  is_absent_work,
-  is_failed_work,
+  is_broken,
   Counts,
-  Gives,
-  Tells,
+  Nothing,
   Tries,
-  IsPrinted,
+  Tells,
   Outside,
   outside,
+  Writes,
+  IsWorkOf,
   Carries,
   stop_status,
+  work_of,
   work_status,
   work_text,
 }
+use Rattle.nm_top.specs.private.Tellings.{IsText, Told}
 use Rattle.nm_top.specs.private.Top.{Does}
+use Rattle.nm_top.proofs.FileLaws.{stops_on}
 use Rattle.nm_top.proofs.DueLaws.{refused_due, owed, complete}
+use Rattle.nm_top.proofs.HeadlineLaws.{says_all}
 
--- ---- a command was carried out
+-- ---- a command that stopped
 
-module _ (command : Command) (F G : Option Files) (a b r s : ℕ) (before after : Option (List ℕ)) (was now : ℕ) (status : Status) where
-  -- what it demands was met
-  pub ran : {X : Type 0} (P : List ℕ → Type 0) (x : X) (text : List ℕ) → IfSome F (λ held. CommandAnswer command held (record { status = statuses.Done; printed = text; files = held }))
-      → Counts {X = X} P a b r s (Ok x) → Tries text before after was now status → G ≡ F
-      → Carries command (outside F a r before was) (outside G b s after now) status
-  ran P x text works counts (inl told) same =
-      record { work = Ok text; works = works; counts = record { blames = tt; absent = counts.absent; failed = counts.failed }; tells = told; files = same }
-  ran P x text works counts (inr told) same =
-      record { work = Err Memory; works = nothing_due F; counts = record { blames = tt; absent = counts.absent; failed = counts.failed }; tells = told; files = same }
-    where
-      nothing_due : (o : Option Files) → IfSome o (λ held. Works (CommandAnswer command held) held (Err Memory))
-      nothing_due None = tt
-      nothing_due (Some held) = tt
+-- what stopped a command is its work
+pub stop_works : (allowed : Reply → Type 0) (broken : Files → Type 0) (held : Files) (stop : Stop) → Stops allowed held stop → allowed (reply statuses.WantOfMemory [] held)
+    → Works allowed broken (Some held) (work_of stop)
+stop_works allowed broken held (Refused r) h short = (held, refl, h)
+stop_works allowed broken held Memory h short = (held, refl, short)
 
-  -- what stopped it was told
-  pub stopped : {X : Type 0} (stop : Stop) → IfSome F (λ held. Stops (CommandAnswer command held) held stop) → Counts {X = X} (IsFetched (demands_of command)) a b r s (Err stop)
-      → Tells (Err stop) before after was now status → G ≡ F → Carries command (outside F a r before was) (outside G b s after now) status
-  stopped (Refused r) stops counts told same =
-      record { work = Err (Refused r); works = stops; counts = record { blames = counts.blames; absent = counts.absent; failed = counts.failed }; tells = told; files = same }
-  stopped Memory stops counts told same =
-      record { work = Err Memory; works = stops; counts = record { blames = counts.blames; absent = counts.absent; failed = counts.failed }; tells = told; files = same }
+-- where nothing was carried out, want of memory is an answer
+pub nothing_short : (command : Command) (held : Files) → CommandAnswer command held (reply statuses.WantOfMemory [] held)
+nothing_short command held = inr ([], held, inl (refl, refl), refl)
+
+stop_is_work : (command : Command) (stop : Stop) → StopBlames (IsFetched (demands_of command)) stop → MayStopAt (Some command) [] → IsWorkOf command (work_of stop)
+stop_is_work command (Refused r) blamed short = blamed
+stop_is_work command Memory blamed short = short
+
+stop_status_is : (stop : Stop) → work_status (work_of stop) ≡ stop_status stop
+stop_status_is (Refused r) = refl
+stop_status_is Memory = refl
+
+stop_unbroken : (stop : Stop) → is_broken (work_of stop) ≡ false
+stop_unbroken (Refused r) = refl
+stop_unbroken Memory = refl
+
+pub stands_still : (given : Bool) (n : ℕ) → given ≡ false → BelongsTo given n n
+stands_still false n e = record { later = omega (arith); rose = tt; still = refl }
+stands_still true n e = absurd cc
+
+pub appends_none : (a : Option (List ℕ)) → Appends a a []
+appends_none None = tt
+appends_none (Some xs) = sym (append-nil xs)
+
+-- what is not broken fails no write
+pub no_writes : (enough : Files → ℕ → Type 0) (before after : Outside) (work : Work) → is_broken work ≡ false → after.writes ≡ before.writes → Writes enough before after work
+no_writes enough before after work e same = record {
+  failed = subst (λ k. BelongsTo (is_broken work) before.writes k) (sym same) (stands_still (is_broken work) before.writes e);
+  sure = by before.files;
+}
+  where
+    by : (o : Option Files) → IfSome o (λ held. (room : ℕ) → before.room ≡ Some room → enough held room → is_broken work ≡ false)
+    by None = tt
+    by (Some held) = λ room k f. e
+
+-- what stopped a command was told
+pub stopped : {X : Type 0} (command : Command) (before after : Outside) (status : Status) (stop : Stop)
+    → IfSome before.files (λ held. Stops (CommandAnswer command held) held stop)
+    → Counts {X = X} (IsFetched (demands_of command)) before.absents after.absents before.reads after.reads (Err stop)
+    → MayStopAt (Some command) [] → after.files ≡ before.files → after.writes ≡ before.writes
+    → Tells (work_of stop) before.given after.given before.faults after.faults status → Carries command before after status
+stopped command before after status stop stops counts short same writes told = record {
+  work = work_of stop;
+  works = subst (λ (o : Option Files). IfSome before.files (λ held. Works (CommandAnswer command held) (IsBroken command held) o (work_of stop))) (sym same) (by before.files stops);
+  keeps = kept (written_of command);
+  is_work = stop_is_work command stop counts.blames short;
+  absent = subst (λ s. BelongsTo (is_absence s) before.absents after.absents) (sym (stop_status_is stop)) counts.absent;
+  failed = subst (λ s. BelongsTo (is_fault s) before.reads after.reads) (sym (stop_status_is stop)) counts.failed;
+  writes = no_writes (IsEnough command) before after (work_of stop) (stop_unbroken stop) writes;
+  tells = told;
+}
+  where
+    by : (o : Option Files) → IfSome o (λ held. Stops (CommandAnswer command held) held stop)
+        → IfSome o (λ held. Works (CommandAnswer command held) (IsBroken command held) o (work_of stop))
+    by None h = tt
+    by (Some held) h = stop_works (CommandAnswer command held) (IsBroken command held) held stop h (nothing_short command held)
+
+    kept : (o : Option (List ℕ)) → KeepsOthers o before.files after.files
+    kept None = same
+    kept (Some name) = inl same
+
+-- what stopped a command at its demands stopped it
+pub command_stops : (command : Command) (F : Option Files) (stop : Stop) → IfSome F (λ held. Stops (Demanding (demands_of command) Nothing held) held stop)
+    → IfSome F (λ held. Stops (CommandAnswer command held) held stop)
+command_stops command F stop h = IfSome_then F h (λ held k. by held stop k)
+  where
+    by : (held : Files) (stop : Stop) → Stops (Demanding (demands_of command) Nothing held) held stop → Stops (CommandAnswer command held) held stop
+    by held (Refused r) k =
+        inl (subst (λ (ds : List Demand). Demanding ds (IsDone command held) held (reply (status_of r) (refusal_line r) held)) (append-nil (demands_of command))
+        (stops_on (demands_of command) [] (IsDone command held) held (Refused r) k))
+    by held Memory k = tt
+
+-- a text, or nothing
+pub told_text : (text : List ℕ) (before after : Option (List ℕ)) (was now : ℕ) (status : Status) → Tries text before after was now status → Told (IsText text) before after was now status
+told_text text before after was now status (inl h) = record { work = Whole text; is = refl; tells = h }
+told_text text before after was now status (inr h) = record { work = Short []; is = refl; tells = h }
+
+-- What a command does with work that wrote no file.
+pub record Bears (command : Command) (files : Option Files) (work : Work) : Type 0 where
+  pub works : IfSome files (λ held. Works (CommandAnswer command held) (IsBroken command held) (Some held) work)
+  pub is_work : IsWorkOf command work
+  pub absent : is_absence (work_status work) ≡ false
+  pub fault : is_fault (work_status work) ≡ false
+  pub unbroken : is_broken work ≡ false
+
+counted_still : {X : Type 0} (P : List ℕ → Type 0) (x : X) (a b r s : ℕ) → Counts {X = X} P a b r s (Ok x) → (given : Bool) → given ≡ false → BelongsTo given a b × BelongsTo given r s
+counted_still P x a b r s c false e = (c.absent, c.failed)
+counted_still P x a b r s c true e = absurd cc
+
+-- what files hold was read, and such work was told
+pub carried : {X : Type 0} (Q : List ℕ → Type 0) (x : X) (command : Command) (before after : Outside) (status : Status) (P : Work → Type 0)
+    → Told P before.given after.given before.faults after.faults status → ((work : Work) → P work → Bears command before.files work)
+    → Counts {X = X} Q before.absents after.absents before.reads after.reads (Ok x) → after.files ≡ before.files → after.writes ≡ before.writes
+    → Carries command before after status
+carried Q x command before after status P told bears counts same writes =
+    let b = bears told.work told.is in
+    record {
+      work = told.work;
+      works = subst (λ (o : Option Files). IfSome before.files (λ held. Works (CommandAnswer command held) (IsBroken command held) o told.work)) (sym same)
+          (by before.files (CommandAnswer command) (IsBroken command) told.work b.works);
+      keeps = kept (written_of command);
+      is_work = b.is_work;
+      absent = (counted_still Q x before.absents after.absents before.reads after.reads counts (is_absence (work_status told.work)) b.absent).0;
+      failed = (counted_still Q x before.absents after.absents before.reads after.reads counts (is_fault (work_status told.work)) b.fault).1;
+      writes = no_writes (IsEnough command) before after told.work b.unbroken writes;
+      tells = told.tells;
+    }
+  where
+    by : (o : Option Files) (allowed : Files → Reply → Type 0) (broken : Files → Files → Type 0) (work : Work) → IfSome o (λ held. Works (allowed held) (broken held) (Some held) work)
+        → IfSome o (λ held. Works (allowed held) (broken held) o work)
+    by None allowed broken work h = tt
+    by (Some held) allowed broken work h = h
+
+    kept : (o : Option (List ℕ)) → KeepsOthers o before.files after.files
+    kept None = same
+    kept (Some name) = inl same
+
+-- a text that is the answer, or want of memory
+pub text_bears : (command : Command) (files : Option Files) (text : List ℕ) → IfSome files (λ held. CommandAnswer command held (reply statuses.Done text held)) → MayStopAt (Some command) []
+    → (work : Work) → IsText text work → Bears command files work
+text_bears command files text done stops (Whole t) is = record {
+  works = IfSome_then files done (λ held h. (held, refl, subst (λ (u : List ℕ). CommandAnswer command held (reply statuses.Done u held)) (sym is) h));
+  is_work = tt;
+  absent = refl;
+  fault = refl;
+  unbroken = refl;
+}
+text_bears command files text done stops (Short t) is = record {
+  works = by files;
+  is_work = subst (MayStopAt (Some command)) (sym is) stops;
+  absent = refl;
+  fault = refl;
+  unbroken = refl;
+}
+  where
+    by : (o : Option Files) → IfSome o (λ held. Works (CommandAnswer command held) (IsBroken command held) (Some held) (Short t))
+    by None = tt
+    by (Some held) = (held, refl, subst (λ (u : List ℕ). CommandAnswer command held (reply statuses.WantOfMemory u held)) (sym is) (nothing_short command held))
+text_bears command files text done stops (Refusing r) is = absurd is
+text_bears command files text done stops Broken is = absurd is
 
 -- ---- the status of work
 
-no_write : (r : Refusal) → status_of r ≢ statuses.WriteFault
-no_write refusals.Usage e = absurd cc
-no_write (refusals.Absent name) e = absurd cc
-no_write (refusals.ReadFault name) e = absurd cc
-no_write (refusals.TooLong name) e = absurd cc
-no_write (refusals.ProgramRefused kind line) e = absurd cc
-no_write (refusals.ScheduleRefused kind place) e = absurd cc
-
-no_usage : (P : List ℕ → Type 0) (r : Refusal) → IsOf P r → status_of r ≢ statuses.Usage
-no_usage P refusals.Usage blamed e = blamed
-no_usage P (refusals.Absent name) blamed e = absurd cc
-no_usage P (refusals.ReadFault name) blamed e = absurd cc
-no_usage P (refusals.TooLong name) blamed e = absurd cc
-no_usage P (refusals.ProgramRefused kind line) blamed e = absurd cc
-no_usage P (refusals.ScheduleRefused kind place) blamed e = absurd cc
+no_write : (P : List ℕ → Type 0) (r : Refusal) → IsOf P r → (status_of r ≢ statuses.WriteFault) × (status_of r ≢ statuses.Usage)
+no_write P refusals.Usage h = absurd h
+no_write P (refusals.Stopped turns) h = absurd h
+no_write P (refusals.Absent name) h = (λ e. absurd cc, λ e. absurd cc)
+no_write P (refusals.ReadFault name) h = (λ e. absurd cc, λ e. absurd cc)
+no_write P (refusals.TooLong name) h = (λ e. absurd cc, λ e. absurd cc)
+no_write P (refusals.ProgramRefused kind line) h = (λ e. absurd cc, λ e. absurd cc)
+no_write P (refusals.ScheduleRefused kind place) h = (λ e. absurd cc, λ e. absurd cc)
+no_write P (refusals.TraceDamaged kind place) h = (λ e. absurd cc, λ e. absurd cc)
+no_write P (refusals.OtherProgram of_trace of_file) h = (λ e. absurd cc, λ e. absurd cc)
+no_write P (refusals.Stuck n events counts) h = (λ e. absurd cc, λ e. absurd cc)
+no_write P (refusals.NotItsTrace letter) h = (λ e. absurd cc, λ e. absurd cc)
 
 is_of_more : (P Q : List ℕ → Type 0) → ((name : List ℕ) → P name → Q name) → (r : Refusal) → IsOf P r → IsOf Q r
 is_of_more P Q f refusals.Usage h = h
+is_of_more P Q f (refusals.Stopped turns) h = h
 is_of_more P Q f (refusals.Absent name) h = f name.now h
 is_of_more P Q f (refusals.ReadFault name) h = f name.now h
 is_of_more P Q f (refusals.TooLong name) h = f name.now h
 is_of_more P Q f (refusals.ProgramRefused kind line) h = tt
 is_of_more P Q f (refusals.ScheduleRefused kind place) h = tt
+is_of_more P Q f (refusals.TraceDamaged kind place) h = tt
+is_of_more P Q f (refusals.OtherProgram of_trace of_file) h = tt
+is_of_more P Q f (refusals.Stuck n events counts) h = tt
+is_of_more P Q f (refusals.NotItsTrace letter) h = tt
 
-refusal_has_line : (P : List ℕ → Type 0) (r : Refusal) → IsOf P r → IsLineOf P (status_of r) (refusal_line r)
-refusal_has_line P refusals.Usage h = absurd h
-refusal_has_line P (refusals.Absent name) h = (refusals.Absent name, refl, h, refl)
-refusal_has_line P (refusals.ReadFault name) h = (refusals.ReadFault name, refl, h, refl)
-refusal_has_line P (refusals.TooLong name) h = (refusals.TooLong name, refl, h, refl)
-refusal_has_line P (refusals.ProgramRefused kind line) h = (refusals.ProgramRefused kind line, refl, h, refl)
-refusal_has_line P (refusals.ScheduleRefused kind place) h = (refusals.ScheduleRefused kind place, refl, h, refl)
+-- what is fetched at first is fetched
+pub fetched_more : (some more : List Demand) (name : List ℕ) → IsFetched some name → IsFetched (some ++ more) name
+fetched_more [] more name h = absurd h
+fetched_more (demand ∷ some) more name (inl h) = inl h
+fetched_more (demand ∷ some) more name (inr h) = inr (fetched_more some more name h)
+
+-- what is blamed on some files is blamed on more
+pub counts_more : {X : Type 0} (P Q : List ℕ → Type 0) → ((name : List ℕ) → P name → Q name) → (stop : Stop) (a b r s : ℕ) → Counts {X = X} P a b r s (Err stop) → Counts {X = X} Q a b r s (Err stop)
+counts_more P Q f (Refused refusal) a b r s c = record { blames = is_of_more P Q f refusal c.blames; absent = c.absent; failed = c.failed }
+counts_more P Q f Memory a b r s c = record { blames = tt; absent = c.absent; failed = c.failed }
+
+-- the one file that is fetched
+pub fetched_one : (demand : Demand) (fetch : Fetch) → fetch_of demand ≡ Some fetch → (name : List ℕ) → name ≡ fetch.name → IsFetched (demand ∷ []) name
+fetched_one demand fetch is name e = inl (subst (λ (o : Option Fetch). IsSomeAnd o (λ fetch. name ≡ fetch.name)) (sym is) e)
+
+module _ (words : List (List ℕ)) where
+  refusal_has_line : (r : Refusal) → IsOf (Fetches words) r → IsLineOf words (status_of r) (refusal_line r)
+  refusal_has_line refusals.Usage h = absurd h
+  refusal_has_line (refusals.Stopped turns) h = absurd h
+  refusal_has_line (refusals.Absent name) h = (refusals.Absent name, refl, h, refl)
+  refusal_has_line (refusals.ReadFault name) h = (refusals.ReadFault name, refl, h, refl)
+  refusal_has_line (refusals.TooLong name) h = (refusals.TooLong name, refl, h, refl)
+  refusal_has_line (refusals.ProgramRefused kind line) h = (refusals.ProgramRefused kind line, refl, h, refl)
+  refusal_has_line (refusals.ScheduleRefused kind place) h = (refusals.ScheduleRefused kind place, refl, h, refl)
+  refusal_has_line (refusals.TraceDamaged kind place) h = (refusals.TraceDamaged kind place, refl, h, refl)
+  refusal_has_line (refusals.OtherProgram of_trace of_file) h = (refusals.OtherProgram of_trace of_file, refl, h, refl)
+  refusal_has_line (refusals.Stuck n events counts) h = (refusals.Stuck n events counts, refl, h, refl)
+  refusal_has_line (refusals.NotItsTrace letter) h = (refusals.NotItsTrace letter, refl, h, refl)
 
 no_absence : (s : Status) → s ≢ statuses.Absent → is_absence s ≡ false
+no_absence statuses.Absent n = absurd (n refl)
 no_absence statuses.Done n = refl
 no_absence statuses.Usage n = refl
-no_absence statuses.Absent n = absurd (n refl)
 no_absence statuses.ReadFault n = refl
 no_absence statuses.WriteFault n = refl
 no_absence statuses.TooLong n = refl
 no_absence statuses.ProgramRefused n = refl
 no_absence statuses.ScheduleRefused n = refl
+no_absence statuses.TraceDamaged n = refl
+no_absence statuses.OtherProgram n = refl
+no_absence statuses.Stuck n = refl
 no_absence statuses.WantOfMemory n = refl
+no_absence statuses.NotItsTrace n = refl
 
 no_fault : (s : Status) → s ≢ statuses.ReadFault → is_fault s ≡ false
+no_fault statuses.ReadFault n = absurd (n refl)
 no_fault statuses.Done n = refl
 no_fault statuses.Usage n = refl
 no_fault statuses.Absent n = refl
-no_fault statuses.ReadFault n = absurd (n refl)
 no_fault statuses.WriteFault n = refl
 no_fault statuses.TooLong n = refl
 no_fault statuses.ProgramRefused n = refl
 no_fault statuses.ScheduleRefused n = refl
+no_fault statuses.TraceDamaged n = refl
+no_fault statuses.OtherProgram n = refl
+no_fault statuses.Stuck n = refl
 no_fault statuses.WantOfMemory n = refl
+no_fault statuses.NotItsTrace n = refl
 
-not_written : (work : Work) → work_status work ≢ statuses.WriteFault
-not_written (Ok text) e = absurd cc
-not_written (Err (Refused r)) e = no_write r e
-not_written (Err Memory) e = absurd cc
+-- the line of work
+has_line : (words : List (List ℕ)) (command : Command) → command_of words ≡ Some command → (work : Work) → IsWorkOf command work → IsLineOf words (work_status work) (work_text work)
+has_line words command is (Whole text) h = tt
+has_line words command is (Refusing r) h =
+    refusal_has_line words r (is_of_more (IsFetched (demands_of command)) (Fetches words)
+    (λ name n. subst (λ (o : Option Command). IsSomeAnd o (λ c. IsFetched (demands_of c) name)) (sym is) n) r h)
+has_line words command is (Short text) h = subst (λ (o : Option Command). MayStopAt o text) (sym is) h
+has_line words command is Broken h = tt
 
--- the counts tell whether a file was absent, and whether a read failed
-absent_of : (work : Work) → is_absent_work work ≡ is_absence (work_status work)
-absent_of (Ok text) = refl
-absent_of (Err stop) = refl
+-- a command's work has no usage, and where its status is that of a failed write, it is broken
+no_usage : (command : Command) (work : Work) → IsWorkOf command work → work_status work ≢ statuses.Usage
+no_usage command (Whole text) h e = absurd cc
+no_usage command (Refusing r) h e = (no_write (IsFetched (demands_of command)) r h).1 e
+no_usage command (Short text) h e = absurd cc
+no_usage command Broken h e = absurd cc
 
-failed_of : (work : Work) → is_failed_work work ≡ is_fault (work_status work)
-failed_of (Ok text) = refl
-failed_of (Err stop) = refl
+broken_of : (command : Command) (work : Work) → IsWorkOf command work → work_status work ≡ statuses.WriteFault → is_broken work ≡ true
+broken_of command (Whole text) h e = absurd cc
+broken_of command (Refusing r) h e = absurd ((no_write (IsFetched (demands_of command)) r h).0 e)
+broken_of command (Short text) h e = absurd cc
+broken_of command Broken h e = refl
 
-is_no_usage : (P : List ℕ → Type 0) (work : Work) → Blames P work → work_status work ≢ statuses.Usage
-is_no_usage P (Ok text) blamed e = absurd cc
-is_no_usage P (Err (Refused r)) blamed e = no_usage P r blamed e
-is_no_usage P (Err Memory) blamed e = absurd cc
-
--- the line of work, about a file that was blamed
-has_line : (P : List ℕ → Type 0) (work : Work) → Blames P work → IsLineOf P (work_status work) (work_text work)
-has_line P (Ok text) blamed = tt
-has_line P (Err (Refused r)) blamed = refusal_has_line P r blamed
-has_line P (Err Memory) blamed = refl
+unbroken_of : (work : Work) → work_status work ≢ statuses.WriteFault → is_broken work ≡ false
+unbroken_of (Whole text) n = refl
+unbroken_of (Refusing r) n = refl
+unbroken_of (Short text) n = refl
+unbroken_of Broken n = absurd (n refl)
 
 rises : (given : Bool) (was now : ℕ) → BelongsTo given was now → given ≡ true → Rose was now
 rises true was now b e = b.rose
@@ -156,62 +325,68 @@ rests false was now b e = b.still
 
 -- ---- what was told of work that is allowed
 
--- the reply that work is
-abbrev reply_of : Files → Work → Reply
-reply_of held work = record { status = work_status work; printed = work_text work; files = held }
+-- a part of nothing is nothing
+nothing_part : (before after : Option (List ℕ)) → AppendsPart before after [] → Appends before after []
+nothing_part before after part = subst (Appends before after) (take_nothing part.0) part.2
+  where
+    nothing : List ℕ
+    nothing = []
 
-allowed_reply : (allowed : Reply → Type 0) (held : Files) (work : Work) → IsPrinted work → Works allowed held work → allowed (reply_of held work)
-allowed_reply allowed held (Ok text) p h = h
-allowed_reply allowed held (Err (Refused r)) p h = h
-allowed_reply allowed held (Err Memory) p h = absurd p
+    take_nothing : (n : ℕ) → take n nothing ≡ []
+    take_nothing zero = refl
+    take_nothing (suc n) = refl
 
--- it is an answer
-gives : (allowed : Files → Reply → Type 0) (told left : Option Files) (work : Work) (before after : Option (List ℕ)) (was now : ℕ) (status : Status)
-    → IfSome told (λ held. Works (allowed held) held work) → left ≡ told → Tells work before after was now status
-    → Answers allowed told left before after status
-gives allowed None left work before after was now status works same told = tt
-gives allowed (Some held) left work before after was now status works same (inl failed) = inl (inl failed.0)
-gives allowed (Some held) left (Ok text) before after was now status works same (inr told) =
-    inr (_, works, record { answered = told.0; printed = told.2; left = same })
-gives allowed (Some held) left (Err (Refused r)) before after was now status works same (inr told) =
-    inr (_, works, record { answered = told.0; printed = told.2; left = same })
-gives allowed (Some held) left (Err Memory) before after was now status works same (inr told) = inl (inr told.0)
+module _ (allowed : Files → Reply → Type 0) (broken : Files → Files → Type 0) (left : Option Files) (before after : Option (List ℕ)) (was now : ℕ) (status : Status) where
+  -- it is an answer
+  gives : (told : Option Files) (work : Work) → IfSome told (λ held. Works (allowed held) (broken held) left work) → Tells work before after was now status → Answers allowed told left before after status
+  gives None work works told = tt
+  gives (Some held) work works (inl failed) = inl failed.0
+  gives (Some held) (Whole text) works (inr told) = inr (_, works.2, record { answered = told.0; printed = told.2; leaves = works.1 })
+  gives (Some held) (Refusing r) works (inr told) = inr (_, works.2, record { answered = told.0; printed = told.2; leaves = works.1 })
+  gives (Some held) (Short text) works (inr told) = inr (_, works.2, record { answered = told.0; printed = told.2; leaves = works.1 })
+  gives (Some held) Broken works (inr told) = inl told.0
 
--- after a failed put, a part of it was printed
-gives_part : (allowed : Files → Reply → Type 0) (told : Option Files) (work : Work) (before after : Option (List ℕ)) (reads reads' was now : ℕ) (status : Status)
-    → IfSome told (λ held. Works (allowed held) held work) → BelongsTo (is_failed_work work) reads reads' → Tells work before after was now status → status ≡ statuses.WriteFault
-    → PrintsPart allowed reads reads' told before after
-gives_part allowed None work before after reads reads' was now status works count told is = tt
-gives_part allowed (Some held) work before after reads reads' was now status works count (inr told) is = absurd (not_written work (sym told.0 ∙ is))
-gives_part allowed (Some held) work before after reads reads' was now status works count (inl failed) is = (
-  work_text work,
-  record {
-    reply = reply_of held work;
-    is_allowed = allowed_reply (allowed held) held work failed.2 works;
-    is = refl;
-    failed = λ e. rises (is_failed_work work) reads reads' count (failed_of work ∙ ap is_fault e);
-    read = λ n. rests (is_failed_work work) reads reads' count (failed_of work ∙ no_fault (work_status work) n);
-  },
-  failed.3,
-)
+  module _ (reads reads' : ℕ) where
+    short_of : (work : Work) (held files : Files) → left ≡ Some files → allowed held (reply (work_status work) (work_text work) files)
+        → BelongsTo (is_fault (work_status work)) reads reads' → AppendsPart before after (work_text work) → CutShort allowed reads reads' held left before after
+    short_of work held files is ok count part = record {
+      reply = reply (work_status work) (work_text work) files;
+      is_allowed = ok;
+      part = part;
+      leaves = is;
+      failed = λ e. rises (is_fault (work_status work)) reads reads' count (ap is_fault e);
+      read = λ n. rests (is_fault (work_status work)) reads reads' count (no_fault (work_status work) n);
+    }
+
+    -- a write failed
+    breaks : (told : Option Files) (command : Command) (work : Work) → IsWorkOf command work → IfSome told (λ held. Works (allowed held) (broken held) left work)
+        → BelongsTo (is_fault (work_status work)) reads reads' → Tells work before after was now status → status ≡ statuses.WriteFault
+        → Breaks allowed broken reads reads' told left before after
+    breaks None command work ok works count told e = tt
+    breaks (Some held) command (Whole text) ok works count (inl failed) e = inl (short_of (Whole text) held works.0 works.1 works.2 count failed.2)
+    breaks (Some held) command (Refusing r) ok works count (inl failed) e = inl (short_of (Refusing r) held works.0 works.1 works.2 count failed.2)
+    breaks (Some held) command (Short text) ok works count (inl failed) e = inl (short_of (Short text) held works.0 works.1 works.2 count failed.2)
+    breaks (Some held) command Broken ok works count (inl failed) e =
+        inr (record { files = works.0; is_broken = works.2; leaves = works.1; printed = nothing_part before after failed.2 })
+    breaks (Some held) command Broken ok works count (inr told) e =
+        inr (record { files = works.0; is_broken = works.2; leaves = works.1; printed = told.2 })
+    breaks (Some held) command (Whole text) ok works count (inr told) e = let k = sym told.0 ∙ e in absurd cc
+    breaks (Some held) command (Refusing r) ok works count (inr told) e = absurd ((no_write (IsFetched (demands_of command)) r ok).0 (sym told.0 ∙ e))
+    breaks (Some held) command (Short text) ok works count (inr told) e = let k = sym told.0 ∙ e in absurd cc
 
 module _ (work : Work) (before after : Option (List ℕ)) (was now : ℕ) (status : Status) where
   told_of : (S : Status) → S ≢ statuses.WriteFault → Tells work before after was now status → status ≡ S → (work_status work ≡ S) × Appends before after (work_text work)
   told_of S n (inl failed) e = absurd (n (sym e ∙ failed.0))
   told_of S n (inr told) e = (sym told.0 ∙ e, told.2)
 
-  written : Tells work before after was now status → status ≡ statuses.WriteFault → Rose was now
-  written (inl failed) e = failed.1
-  written (inr told) e = absurd (not_written work (sym told.0 ∙ e))
-
   unwritten : Tells work before after was now status → status ≢ statuses.WriteFault → now ≡ was
   unwritten (inl failed) n = absurd (n failed.0)
   unwritten (inr told) n = told.1
 
-  prints_line : (P : List ℕ → Type 0) → IsLineOf P (work_status work) (work_text work) → Tells work before after was now status → PrintsLine P status before after
-  prints_line P line (inl failed) =
-      let part = failed.3 in (take part.0 (work_text work), subst (λ (s : Status). IsLineOf P s (take part.0 (work_text work))) (sym failed.0) tt, part.2)
-  prints_line P line (inr told) = (work_text work, subst (λ (s : Status). IsLineOf P s (work_text work)) (sym told.0) line, told.2)
+  prints_line : (words : List (List ℕ)) → IsLineOf words (work_status work) (work_text work) → Tells work before after was now status → PrintsLine words status before after
+  prints_line words line (inl failed) =
+      let part = failed.2 in (take part.0 (work_text work), subst (λ (s : Status). IsLineOf words s (take part.0 (work_text work))) (sym failed.0) tt, part.2)
+  prints_line words line (inr told) = (work_text work, subst (λ (s : Status). IsLineOf words s (work_text work)) (sym told.0) line, told.2)
 
   answered : Tells work before after was now status → status ≢ statuses.WriteFault → status ≡ work_status work
   answered (inl failed) n = absurd (n failed.0)
@@ -226,71 +401,82 @@ module _ (words : List (List ℕ)) (before after : Outside) (status : Status) wh
   -- the words name a command, which was carried out
   pub does_command : (command : Command) → command_of words ≡ Some command → Carries command before after status → Does words before after status
   does_command command is h =
-      let answers = gives (Answer words) before.files after.files h.work before.given after.given before.faults after.faults status works h.files h.tells in
-      let fault : status ≡ statuses.ReadFault → Rose before.read_faults after.read_faults = λ e. rises (is_failed_work h.work) before.read_faults after.read_faults h.counts.failed
-      (failed_of h.work ∙ ap is_fault (told_of h.work before.given after.given before.faults after.faults status statuses.ReadFault (λ k. absurd cc) h.tells e).0) in
-      let write : status ≡ statuses.WriteFault → Rose before.faults after.faults = written h.work before.given after.given before.faults after.faults status h.tells in
+      let tells = h.tells in
+      let told : (S : Status) → S ≢ statuses.WriteFault → status ≡ S → work_status h.work ≡ S =
+      λ S n e. (told_of h.work before.given after.given before.faults after.faults status S n tells e).0 in
+      let same : status ≢ statuses.WriteFault → status ≡ work_status h.work = answered h.work before.given after.given before.faults after.faults status tells in
+      let answers = gives (Answer words) (MayBreak words) after.files before.given after.given before.faults after.faults status before.files h.work works tells in
+      let fault : status ≡ statuses.ReadFault → Rose before.reads after.reads =
+      λ e. rises (is_fault (work_status h.work)) before.reads after.reads h.failed (ap is_fault (told statuses.ReadFault (λ k. absurd cc) e)) in
+      let write : status ≡ statuses.WriteFault → Rose before.writes after.writes ⊎ Rose before.faults after.faults = written tells in
       record {
         answer = answers;
-        usage = λ e. absurd (is_no_usage (IsFetched (demands_of command)) h.work h.counts.blames
-            (told_of h.work before.given after.given before.faults after.faults status statuses.Usage (λ k. absurd cc) h.tells e).0);
+        usage = λ e. absurd (no_usage command h.work h.is_work (told statuses.Usage (λ k. absurd cc) e));
         no_command = λ none. absurd (some_none command is none);
-        absent = λ e. rises (is_absent_work h.work) before.absents after.absents h.counts.absent
-            (absent_of h.work ∙ ap is_absence (told_of h.work before.given after.given before.faults after.faults status statuses.Absent (λ k. absurd cc) h.tells e).0);
-        no_absent = λ n m. rests (is_absent_work h.work) before.absents after.absents h.counts.absent
-            (absent_of h.work ∙ no_absence (work_status h.work) (λ e. n (answered h.work before.given after.given before.faults after.faults status h.tells m ∙ e)));
+        absent = λ e. rises (is_absence (work_status h.work)) before.absents after.absents h.absent (ap is_absence (told statuses.Absent (λ k. absurd cc) e));
+        no_absent = λ n m. rests (is_absence (work_status h.work)) before.absents after.absents h.absent (no_absence (work_status h.work) (λ e. n (same m ∙ e)));
         read_fault = fault;
-        no_read_fault = λ n m. rests (is_failed_work h.work) before.read_faults after.read_faults h.counts.failed
-            (failed_of h.work ∙ no_fault (work_status h.work) (λ e. n (answered h.work before.given after.given before.faults after.faults status h.tells m ∙ e)));
+        no_read_fault = λ n m. rests (is_fault (work_status h.work)) before.reads after.reads h.failed (no_fault (work_status h.work) (λ e. n (same m ∙ e)));
         refused = refused_due words before.files after.files before.given after.given status answers;
-        owed = owed words before.files after.files before.given after.given status answers before.read_faults after.read_faults before.faults after.faults fault write;
+        owed = owed words before.files after.files before.given after.given status answers before.reads after.reads before.writes after.writes before.faults after.faults fault write;
         write_fault = write;
-        no_write_fault = unwritten h.work before.given after.given before.faults after.faults status h.tells;
-        part = λ e. gives_part (Answer words) before.files h.work before.given after.given before.read_faults after.read_faults before.faults after.faults status works h.counts.failed
-            h.tells e;
-        line = prints_line h.work before.given after.given before.faults after.faults status (Fetches words) (has_line (Fetches words) h.work (blames_of h.work h.counts.blames)) h.tells;
-        complete = complete words before.files after.files before.given after.given status answers before.read_faults after.read_faults before.faults after.faults fault write;
-        files = h.files;
+        no_file_fault = λ n. rests (is_broken h.work) before.writes after.writes h.writes.failed (unbroken_of h.work (λ e. n (same n ∙ e)));
+        no_write_fault = unwritten h.work before.given after.given before.faults after.faults status tells;
+        sure = sure before.files h.writes.sure;
+        breaks = λ e. breaks (Answer words) (MayBreak words) after.files before.given after.given before.faults after.faults status before.reads after.reads before.files command h.work h.is_work
+            works h.failed tells e;
+        line = prints_line h.work before.given after.given before.faults after.faults status words (has_line words command is h.work h.is_work) tells;
+        complete = complete words before.files after.files before.given after.given status answers before.reads after.reads before.writes after.writes before.faults after.faults fault write;
+        keeps = subst (λ (o : Option Command). KeepsOthers (option_and_then written_of o) before.files after.files) (sym is) h.keeps;
+        headline = says_all words before.files after.files before.reads after.reads before.writes after.writes before.faults after.faults before.given after.given status answers
+            (complete words before.files after.files before.given after.given status answers before.reads after.reads before.writes after.writes before.faults after.faults fault write);
       }
     where
-      works : IfSome before.files (λ held. Works (Answer words held) held h.work)
-      works = subst (λ (o : Option Command). IfSome before.files (λ held. Works (λ reply. MatchOption o (Says held statuses.Usage usage_line reply)
-          (λ c. CommandAnswer c held reply)) held h.work)) (sym is) h.works
+      works : IfSome before.files (λ held. Works (Answer words held) (MayBreak words held) after.files h.work)
+      works = subst (λ (o : Option Command). IfSome before.files (λ held. Works (λ r. MatchOption o (Says held statuses.Usage usage_line r)
+          (λ c. CommandAnswer c held r)) (λ left. IsSomeAnd o (λ c. IsBroken c held left)) after.files h.work)) (sym is) h.works
 
-      fetched : (name : List ℕ) → IsFetched (demands_of command) name → Fetches words name
-      fetched name n = subst (λ (o : Option Command). IsSomeAnd o (λ c. IsFetched (demands_of c) name)) (sym is) n
+      written : Tells h.work before.given after.given before.faults after.faults status → status ≡ statuses.WriteFault
+          → Rose before.writes after.writes ⊎ Rose before.faults after.faults
+      written (inl failed) e = inr failed.1
+      written (inr t) e = inl (rises (is_broken h.work) before.writes after.writes h.writes.failed (broken_of command h.work h.is_work (sym t.0 ∙ e)))
 
-      blames_of : (work : Work) → Blames (IsFetched (demands_of command)) work → Blames (Fetches words) work
-      blames_of (Ok text) b = tt
-      blames_of (Err Memory) b = tt
-      blames_of (Err (Refused r)) b = is_of_more (IsFetched (demands_of command)) (Fetches words) fetched r b
+      sure : (o : Option Files) → IfSome o (λ held. (room : ℕ) → before.room ≡ Some room → IsEnough command held room → is_broken h.work ≡ false)
+          → IfSome o (λ held. (room : ℕ) → before.room ≡ Some room → Suffices words held room → after.writes ≡ before.writes)
+      sure None f = tt
+      sure (Some held) f = λ room k enough. rests (is_broken h.work) before.writes after.writes h.writes.failed
+          (f room k (subst (λ (o : Option Command). IsSomeAnd o (λ c. IsEnough c held room)) is enough))
 
 -- no command has the words, and that was told
-module _ (words : List (List ℕ)) (F : Option Files) (a r : ℕ) (before after : Option (List ℕ)) (was now : ℕ) (status : Status) (none : command_of words ≡ None) where
+module _ (words : List (List ℕ)) (F : Option Files) (a r w : ℕ) (room : Option ℕ) (before after : Option (List ℕ)) (was now : ℕ) (status : Status) (none : command_of words ≡ None) where
   abbrev usage : Work
-  usage = Err (Refused refusals.Usage)
+  usage = Refusing refusals.Usage
 
   abbrev said : Files → Reply
-  said held = record { status = statuses.Usage; printed = usage_line; files = held }
+  said held = reply statuses.Usage usage_line held
 
   is_answer : (held : Files) → Answer words held (said held)
   is_answer held = subst (λ (o : Option Command). MatchOption o (Says held statuses.Usage usage_line (said held)) (λ c. CommandAnswer c held (said held))) (sym none) refl
 
-  usage_part : (o : Option Files) → Tells usage before after was now status → status ≡ statuses.WriteFault → PrintsPart (Answer words) r r o before after
-  usage_part None t e = tt
-  usage_part (Some held) (inl failed) e =
-      (usage_line, record { reply = said held; is_allowed = is_answer held; is = refl; failed = λ e. absurd cc; read = λ n. refl }, failed.3)
-  usage_part (Some held) (inr t) e = absurd (not_written usage (sym t.0 ∙ e))
+  usage_breaks : (o : Option Files) → Tells usage before after was now status → status ≡ statuses.WriteFault → Breaks (Answer words) (MayBreak words) r r o o before after
+  usage_breaks None t e = tt
+  usage_breaks (Some held) (inl failed) e =
+      inl (record { reply = said held; is_allowed = is_answer held; part = failed.2; leaves = refl; failed = λ e. absurd cc; read = λ n. refl })
+  usage_breaks (Some held) (inr t) e = let k = sym t.0 ∙ e in absurd cc
 
   answers : (o : Option Files) → Tells usage before after was now status → Answers (Answer words) o o before after status
   answers None t = tt
-  answers (Some held) (inl failed) = inl (inl failed.0)
-  answers (Some held) (inr t) = inr (said held, is_answer held, record { answered = t.0; printed = t.2; left = refl })
+  answers (Some held) (inl failed) = inl failed.0
+  answers (Some held) (inr t) = inr (said held, is_answer held, record { answered = t.0; printed = t.2; leaves = refl })
 
-  pub does_usage : Tells usage before after was now status → Does words (outside F a r before was) (outside F a r after now) status
+  all_sure : (o : Option Files) → IfSome o (λ held. (k : ℕ) → room ≡ Some k → Suffices words held k → w ≡ w)
+  all_sure None = tt
+  all_sure (Some held) = λ k e f. refl
+
+  pub does_usage : Tells usage before after was now status → Does words (outside F a r w room before was) (outside F a r w room after now) status
   does_usage told =
       let fault : status ≡ statuses.ReadFault → Rose r r = λ e. (let t = (told_of usage before after was now status statuses.ReadFault (λ k. absurd cc) told e).0 in absurd cc) in
-      let write = written usage before after was now status told in
+      let write : status ≡ statuses.WriteFault → Rose w w ⊎ Rose was now = written told in
       record {
         answer = answers F told;
         usage = λ e. none;
@@ -300,11 +486,18 @@ module _ (words : List (List ℕ)) (F : Option Files) (a r : ℕ) (before after 
         read_fault = fault;
         no_read_fault = λ n m. refl;
         refused = refused_due words F F before after status (answers F told);
-        owed = owed words F F before after status (answers F told) r r was now fault write;
+        owed = owed words F F before after status (answers F told) r r w w was now fault write;
         write_fault = write;
+        no_file_fault = λ n. refl;
         no_write_fault = unwritten usage before after was now status told;
-        part = usage_part F told;
-        line = prints_line usage before after was now status (Fetches words) refl told;
-        complete = complete words F F before after status (answers F told) r r was now fault write;
-        files = refl;
+        sure = all_sure F;
+        breaks = usage_breaks F told;
+        line = prints_line usage before after was now status words refl told;
+        complete = complete words F F before after status (answers F told) r r w w was now fault write;
+        keeps = subst (λ (o : Option Command). KeepsOthers (option_and_then written_of o) F F) (sym none) refl;
+        headline = says_all words F F r r w w was now before after status (answers F told) (complete words F F before after status (answers F told) r r w w was now fault write);
       }
+    where
+      written : Tells usage before after was now status → status ≡ statuses.WriteFault → Rose w w ⊎ Rose was now
+      written (inl failed) e = inr failed.1
+      written (inr t) e = let k = sym t.0 ∙ e in absurd cc

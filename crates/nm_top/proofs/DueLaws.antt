@@ -1,18 +1,18 @@
 -- Which demand of a command decides its status.
-use Rattle.std.proofs.Common.{◌≡◌, ◌≢◌, ◌≤◌, ◌<◌, ℕ, List, [], ◌∷◌, length, Bool, true, false, Option, None, Some, IfSome, MatchOption, inl, inr, refl, ap, sym, ◌∙◌, subst, arith}
+use Rattle.std.proofs.Common.{◌≡◌, ◌≢◌, ◌≤◌, ◌<◌, ℕ, List, [], ◌∷◌, length, true, Option, None, Some, IfSome, MatchOption, inl, inr, ap, sym, ◌∙◌, subst, arith}
 use Rattle.std.specs.Prelude.{◌⊎◌, IsNone, IsSomeAnd}
 use Rattle.std.specs.FinMap.{get}
 use Rattle.std.proofs.lemmas.Bool.{false≢true}
 use Rattle.nm_outside.specs.Files.{Files}
 use Rattle.report.specs.Texts.{usage_line, absent_line, read_fault_line, too_long_line}
 use Rattle.nm_top.specs.declared.status.Status.{Status}
-use Rattle.nm_top.specs.declared.status.Status.TheVariants.{Done, Usage, Absent, ReadFault, WriteFault, TooLong}
+use Rattle.nm_top.specs.declared.status.Status.TheVariants.{Done, Usage, Absent, ReadFault, WriteFault, TooLong, WantOfMemory}
 use Rattle.nm_top.specs.Commands.{Command, command_of}
 use Rattle.nm_top.specs.Statuses.{is_of_files}
 use Rattle.nm_top.specs.Replies.{Reply, Says, Answers, Owed}
-use Rattle.nm_top.specs.Demands.{Demand, Fetch, fetch_of, refusal_of, Admits, Holds, HoldsIn, IsMissing, IsPastLimit, IsMet, AreMet, FailsAs, missing, too_long, refused, FirstFailsAs}
+use Rattle.nm_top.specs.Demands.{Demand, Fetch, fetch_of, Admits, HoldsIn, IsMissing, IsPastLimit, IsMet, AreMet, FailsAs, missing, too_long, refused, FirstFailsAs}
 use Rattle.nm_top.specs.Answers as answers
-use Rattle.nm_top.specs.Answers.{IsReason, Refuses, FailsToRead, Demanding, IsDone, CommandAnswer, Answer, demands_of, Due, Ready}
+use Rattle.nm_top.specs.Answers.{IsReason, Refuses, FailsToRead, Demanding, IsDone, IsShort, CommandAnswer, Answer, demands_of, Due, Ready}
 use Rattle.nm_outside.specs.Causes.{Rose}
 
 -- ---- how one demand fails
@@ -81,15 +81,15 @@ module _ (held : Files) where
       by (Some bytes) k = (k.0, f bytes k.1)
 
   -- a refusal of a demand is its failing
-  fails : (demand : Demand) (reply : Reply) → Refuses demand held reply → FailsAs reply.status demand held
+  pub fails : (demand : Demand) (reply : Reply) → Refuses demand held reply → FailsAs reply.status demand held
   fails demand reply (answers.missing h) =
       let b = some_both (IsMissing held) (λ f. Says held Absent (absent_line f.name) reply) (reply.status ≡ Absent) (λ f says. ap (λ (r : Reply). r.status) says) (fetch_of demand) h in missing b.0 b.1
   fails demand reply (answers.too_long h) =
       let b = some_both (IsPastLimit held) (λ f. Says held TooLong (too_long_line f.name) reply) (reply.status ≡ TooLong) (λ f says. ap (λ (r : Reply). r.status) says) (fetch_of demand) h in too_long b.0 b.1
   fails demand reply (answers.refused line h says) =
-      refused (ap (λ (r : Reply). r.status) says) (holds_less (λ bytes. (Admits demand held bytes → ⊥) × IsReason demand bytes line) (λ bytes. Admits demand held bytes → ⊥) (λ bytes k. k.0) (fetch_of demand) h)
+      refused (ap (λ (r : Reply). r.status) says) (holds_less (λ bytes. (Admits demand held bytes → ⊥) × IsReason demand held bytes line) (λ bytes. Admits demand held bytes → ⊥) (λ bytes k. k.0) (fetch_of demand) h)
 
-  read_status : (reply : Reply) (demand : Demand) → FailsToRead demand held reply → reply.status ≡ ReadFault
+  pub read_status : (reply : Reply) (demand : Demand) → FailsToRead demand held reply → reply.status ≡ ReadFault
   read_status reply demand h = by (fetch_of demand) h
     where
       by : (o : Option Fetch) → IsSomeAnd o (λ fetch. Says held ReadFault (read_fault_line fetch.name) reply) → reply.status ≡ ReadFault
@@ -122,8 +122,11 @@ module _ (held : Files) (done : Reply → Type 0) (ends : (reply : Reply) → do
   all_met (demand ∷ demands) reply (inr (inl h)) n met = absurd (unmet held demand reply.status (fails held demand reply h) met.0)
   all_met (demand ∷ demands) reply (inr (inr h)) n met = all_met demands reply h.1 n met.1
 
-done_ends : (command : Command) (held : Files) (reply : Reply) → IsDone command held reply → reply.status ≡ Done
-done_ends command held reply h = ap (λ (r : Reply). r.status) h.2
+done_ends : (command : Command) (held : Files) (r : Reply) → IsDone command held r → r.status ≡ Done
+done_ends command held r h = ap (λ (r : Reply). r.status) h.3
+
+pub short_ends : (command : Command) (held : Files) (r : Reply) → IsShort command held r → r.status ≡ WantOfMemory
+short_ends command held r h = ap (λ (r : Reply). r.status) h.3
 
 -- ---- the answer to words
 
@@ -132,48 +135,63 @@ module _ (words : List (List ℕ)) (told left : Option Files) (before after : Op
   pub refused_due : is_of_files status ≡ true → IfSome told (Due status words)
   refused_due e = by told answer
     where
-      of_reply : (held : Files) (o : Option Command) (reply : Reply) → reply.status ≡ status → MatchOption o (Says held Usage usage_line reply) (λ c. CommandAnswer c held reply)
+      of_answer : (held : Files) (c : Command) (r : Reply) → r.status ≡ status → CommandAnswer c held r → FirstFailsAs status (demands_of c) held
+      of_answer held c r is (inl h) = subst (λ (s : Status). FirstFailsAs s (demands_of c) held) is (first_fails held (IsDone c held) (done_ends c held) (demands_of c) r h (ap is_of_files is ∙ e))
+      of_answer held c r is (inr h) = absurd (false≢true (ap is_of_files (sym (short_ends c held r h) ∙ is) ∙ e))
+
+      of_reply : (held : Files) (o : Option Command) (r : Reply) → r.status ≡ status → MatchOption o (Says held Usage usage_line r) (λ c. CommandAnswer c held r)
           → IsSomeAnd o (λ c. FirstFailsAs status (demands_of c) held)
-      of_reply held None reply is says = absurd (false≢true (ap is_of_files (sym (ap (λ (r : Reply). r.status) says) ∙ is) ∙ e))
-      of_reply held (Some c) reply is h =
-          subst (λ (s : Status). FirstFailsAs s (demands_of c) held) is (first_fails held (IsDone c held) (done_ends c held) (demands_of c) reply h (ap is_of_files is ∙ e))
+      of_reply held None r is says = absurd (false≢true (ap is_of_files (sym (ap (λ (r : Reply). r.status) says) ∙ is) ∙ e))
+      of_reply held (Some c) r is h = of_answer held c r is h
 
       by : (o : Option Files) → Answers (Answer words) o left before after status → IfSome o (Due status words)
       by None h = tt
-      by (Some held) (inl (inl k)) = absurd (false≢true (sym (ap is_of_files k) ∙ e))
-      by (Some held) (inl (inr k)) = absurd (false≢true (sym (ap is_of_files k) ∙ e))
+      by (Some held) (inl k) = absurd (false≢true (sym (ap is_of_files k) ∙ e))
       by (Some held) (inr h) = of_reply held (command_of words) h.0 (sym h.2.answered) h.1
 
-  module _ (reads reads' faults faults' : ℕ) (read_fault : status ≡ ReadFault → Rose reads reads') (write_fault : status ≡ WriteFault → Rose faults faults') where
+  module _ (reads reads' writes writes' faults faults' : ℕ) (read_fault : status ≡ ReadFault → Rose reads reads')
+      (write_fault : status ≡ WriteFault → Rose writes writes' ⊎ Rose faults faults') where
     -- what is decided where no read fails is owed
-    owed_by : (Q : Command → Files → Type 0) (S : Status) → ((c : Command) (held : Files) (reply : Reply) → CommandAnswer c held reply → reply.status ≢ ReadFault → Q c held → reply.status ≡ S)
-        → IfSome told (λ held. IsSomeAnd (command_of words) (λ c. Q c held) → Owed S reads reads' faults faults' status)
+    owed_by : (Q : Command → Files → Type 0) (S : Status)
+        → ((c : Command) (held : Files) (r : Reply) → Demanding (demands_of c) (IsDone c held) held r → r.status ≢ ReadFault → Q c held → r.status ≡ S)
+        → IfSome told (λ held. IsSomeAnd (command_of words) (λ c. Q c held) → Owed S reads reads' writes writes' faults faults' status)
     owed_by Q S f = by told answer
       where
-        of_reply : (held : Files) (o : Option Command) (reply : Reply) → reply.status ≢ ReadFault → IsSomeAnd o (λ c. Q c held)
-            → MatchOption o (Says held Usage usage_line reply) (λ c. CommandAnswer c held reply) → reply.status ≡ S
-        of_reply held None reply n q h = absurd q
-        of_reply held (Some c) reply n q h = f c held reply h n q
+        of_answer : (held : Files) (c : Command) (r : Reply) → r.status ≢ ReadFault → Q c held → CommandAnswer c held r → (r.status ≡ S) ⊎ (r.status ≡ WantOfMemory)
+        of_answer held c r n q (inl h) = inl (f c held r h n q)
+        of_answer held c r n q (inr h) = inr (short_ends c held r h)
+
+        of_reply : (held : Files) (o : Option Command) (r : Reply) → r.status ≢ ReadFault → IsSomeAnd o (λ c. Q c held)
+            → MatchOption o (Says held Usage usage_line r) (λ c. CommandAnswer c held r) → (r.status ≡ S) ⊎ (r.status ≡ WantOfMemory)
+        of_reply held None r n q h = absurd q
+        of_reply held (Some c) r n q h = of_answer held c r n q h
+
+        at : (r : Reply) → status ≡ r.status → (r.status ≡ S) ⊎ (r.status ≡ WantOfMemory) → (status ≡ S) ⊎ (status ≡ WantOfMemory)
+        at r e (inl k) = inl (e ∙ k)
+        at r e (inr k) = inr (e ∙ k)
+
+        no_write : Rose writes writes' ⊎ Rose faults faults' → ¬ Rose writes writes' → ¬ Rose faults faults' → ⊥
+        no_write (inl k) n m = n k
+        no_write (inr k) n m = m k
 
         by : (o : Option Files) → Answers (Answer words) o left before after status
-            → IfSome o (λ held. IsSomeAnd (command_of words) (λ c. Q c held) → Owed S reads reads' faults faults' status)
+            → IfSome o (λ held. IsSomeAnd (command_of words) (λ c. Q c held) → Owed S reads reads' writes writes' faults faults' status)
         by None a = tt
-        by (Some held) (inl (inl k)) = λ q r w. absurd (w (write_fault k))
-        by (Some held) (inl (inr k)) = λ q r w. inr k
-        by (Some held) (inr h) = λ q r w. inl (h.2.answered ∙ of_reply held (command_of words) h.0 (λ e. r (read_fault (h.2.answered ∙ e))) q h.1)
+        by (Some held) (inl k) = λ q r w m. absurd (no_write (write_fault k) w m)
+        by (Some held) (inr h) = λ q r w m. at h.0 h.2.answered (of_reply held (command_of words) h.0 (λ e. r (read_fault (h.2.answered ∙ e))) q h.1)
 
-    owed_at : (due : Status) → IfSome told (λ held. Due due words held → Owed due reads reads' faults faults' status)
+    owed_at : (due : Status) → IfSome told (λ held. Due due words held → Owed due reads reads' writes writes' faults faults' status)
     owed_at due = owed_by (λ c held. FirstFailsAs due (demands_of c) held) due
-        (λ c held reply h n first. decided held (IsDone c held) (done_ends c held) (demands_of c) reply due h n first)
+        (λ c held r h n first. decided held (IsDone c held) (done_ends c held) (demands_of c) r due h n first)
 
     -- what is due is owed
-    pub owed : IfSome told (λ held. (due : Status) → Due due words held → Owed due reads reads' faults faults' status)
+    pub owed : IfSome told (λ held. (due : Status) → Due due words held → Owed due reads reads' writes writes' faults faults' status)
     owed = by told owed_at
       where
-        by : (o : Option Files) → ((due : Status) → IfSome o (λ held. Due due words held → Owed due reads reads' faults faults' status))
-            → IfSome o (λ held. (due : Status) → Due due words held → Owed due reads reads' faults faults' status)
+        by : (o : Option Files) → ((due : Status) → IfSome o (λ held. Due due words held → Owed due reads reads' writes writes' faults faults' status))
+            → IfSome o (λ held. (due : Status) → Due due words held → Owed due reads reads' writes writes' faults faults' status)
         by None f = tt
         by (Some held) f = f
 
-    pub complete : IfSome told (λ held. Ready words held → Owed Done reads reads' faults faults' status)
-    complete = owed_by (λ c held. AreMet (demands_of c) held) Done (λ c held reply h n met. all_met held (IsDone c held) (done_ends c held) (demands_of c) reply h n met)
+    pub complete : IfSome told (λ held. Ready words held → Owed Done reads reads' writes writes' faults faults' status)
+    complete = owed_by (λ c held. AreMet (demands_of c) held) Done (λ c held r h n met. all_met held (IsDone c held) (done_ends c held) (demands_of c) r h n met)

@@ -19,7 +19,7 @@ use Rattle.report.specs.Runs.{RunsProgram}
 use Rattle.nm_top.specs.private.Begun.{IsBegun, AreBegun}
 
 -- lists that a map takes to one list have at each place elements that it takes to one
-get_mapped : {X Y : Type 0} (f : X → Y) (xs ys : List X) (i : ℕ) (x : X) → map f xs ≡ map f ys → slice_get xs i ≡ Some x → (y : X) × (slice_get ys i ≡ Some y) × (f x ≡ f y)
+pub get_mapped : {X Y : Type 0} (f : X → Y) (xs ys : List X) (i : ℕ) (x : X) → map f xs ≡ map f ys → slice_get xs i ≡ Some x → (y : X) × (slice_get ys i ≡ Some y) × (f x ≡ f y)
 get_mapped {X = X} f xs ys i x e at =
     go (slice_get ys i) refl (ap (option_map f) (sym at) ∙ sym (slice_get-map f xs i) ∙ ap (λ zs. slice_get zs i) e ∙ slice_get-map f ys i)
   where
@@ -56,17 +56,22 @@ module _ (code : Code) (n : ℕ) where
       → Begins process.stands_for-value.it (map process_in seats) (script_of p n)
   begins p seats lawful is_code a = record { lawful = lawful; stands = λ me x at. (a.each me x at).stands p is_code }
 
+  -- processes of the origins that the seats have run the program
+  pub runs_from : {M : Type 0} (w : Parts CProc M) (p : Program) (E : List Event) (seats : List (Seat CProc)) → AreBegun code n n seats
+      → map process.origin_of-value.it w.processes ≡ map process.origin_of-value.it (map process_in seats) → length w.processes ≡ n → IsCodeOf p code
+      → IsWorldOf process.stands_for-value.it w (script_of p n) E → RunsProgram w p E
+  runs_from w p E seats a same many is_code stands = record {
+    stands = subst (λ k. IsWorldOf process.stands_for-value.it w (script_of p k) E) (sym many) stands;
+    code = code;
+    compiled = is_code;
+    runs = λ me x at.
+        let y = get_mapped process.origin_of-value.it w.processes (map process_in seats) me x same at in
+        y.2 ∙ (a.each me y.0 y.1).origin ∙ ap (λ (k : ℕ). (code, k)) (sym many);
+  }
+
   -- what the world is after the turns
   pub runs_program : {M : Type 0} (w0 w : Parts CProc M) (p : Program) (E : List Event) (seats : List (Seat CProc)) → AreBegun code n n seats
       → w0.processes ≡ map process_in seats → map process.origin_of-value.it w.processes ≡ map process.origin_of-value.it w0.processes → length w.processes ≡ length w0.processes → IsCodeOf p code
       → IsWorldOf process.stands_for-value.it w (script_of p n) E → RunsProgram w p E
   runs_program w0 w p E seats a first same size is_code stands =
-      let many : length w.processes ≡ n = size ∙ ap length first ∙ map_length process_in seats ∙ a.count in
-      record {
-        stands = subst (λ k. IsWorldOf process.stands_for-value.it w (script_of p k) E) (sym many) stands;
-        code = code;
-        compiled = is_code;
-        runs = λ me x at.
-            let y = get_mapped process.origin_of-value.it w.processes w0.processes me x same at in
-            y.2 ∙ (a.each me y.0 (ap (λ ps. slice_get ps me) (sym first) ∙ y.1)).origin ∙ ap (λ (k : ℕ). (code, k)) (sym many);
-      }
+      runs_from w p E seats a (same ∙ ap (map process.origin_of-value.it) first) (size ∙ ap length first ∙ map_length process_in seats ∙ a.count) is_code stands

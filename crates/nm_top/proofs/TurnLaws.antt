@@ -8,7 +8,8 @@ use Rattle.nm_base.specs.Scripts.{Script}
 use Rattle.schedules.specs.declared.schedule.Turn.{Turn}
 use Rattle.event_list.specs.declared.Event.{Event}
 use Rattle.event_list.specs.Turns as turns
-use Rattle.event_list.specs.Turns.{Turned, Stays, Went, go, after, run_of}
+use Rattle.event_list.specs.Traces.{Trace}
+use Rattle.event_list.specs.Turns.{Turned, Stays, Went, go, after, run_of, replay_of}
 use Rattle.event_list.specs.Rules.{rule_of, go_under}
 use Rattle.event_list.proofs.RuleFacts.{turn_rule}
 use Rattle.processes.specs.Standing.{Standing}
@@ -42,13 +43,23 @@ take_length (suc i) (x ∷ xs) = omega (arith, take_length i xs)
 pub run_length : (s : ℕ → Script) (M : ℕ) (ts : List Turn) (i : ℕ) → length (run_of s M (map seen_turn (take i ts))) ≤ i
 run_length s M ts i = omega (arith, from_length s M [] (map seen_turn (take i ts)), map_length seen_turn (take i ts), take_length i ts)
 
+-- the first turns, with one more
+one_more : (ts : List Turn) (i : ℕ) (t : Turn) → slice_get ts i ≡ Some t → take (i + 1) ts ≡ take i ts ++ t ∷ []
+one_more ts i t at =
+    ap (λ k. take k ts) (add-one i) ∙ take-suc ts i t (slice_get_within ts i t at) ∙ ap (λ u. take i ts ++ u ∷ []) (get_or_from_slice_get ts i t t at)
+
+pub replay_more : (s : ℕ → Script) (T : Trace) (ts : List Turn) (i : ℕ) (t : Turn) → slice_get ts i ≡ Some t
+    → replay_of s T (map seen_turn (take (i + 1) ts))
+    ≡ after (replay_of s T (map seen_turn (take i ts))) (go s T.mask (Some T) (replay_of s T (map seen_turn (take i ts))) (seen_turn t))
+replay_more s T ts i t at =
+    ap (λ us. replay_of s T (map seen_turn us)) (one_more ts i t at) ∙ ap (replay_of s T) (map_append seen_turn (take i ts) (t ∷ []))
+    ∙ fold_push (λ R u. after R (go s T.mask (Some T) R u)) [] (map seen_turn (take i ts)) (seen_turn t)
+
 -- one turn more
 pub run_more : (s : ℕ → Script) (M : ℕ) (ts : List Turn) (i : ℕ) (t : Turn) → slice_get ts i ≡ Some t
     → run_of s M (map seen_turn (take (i + 1) ts)) ≡ after (run_of s M (map seen_turn (take i ts))) (go s M None (run_of s M (map seen_turn (take i ts))) (seen_turn t))
 run_more s M ts i t at =
-    let one : take (i + 1) ts ≡ take i ts ++ t ∷ [] =
-    ap (λ k. take k ts) (add-one i) ∙ take-suc ts i t (slice_get_within ts i t at) ∙ ap (λ u. take i ts ++ u ∷ []) (get_or_from_slice_get ts i t t at) in
-    ap (λ us. run_of s M (map seen_turn us)) one ∙ ap (run_of s M) (map_append seen_turn (take i ts) (t ∷ []))
+    ap (λ us. run_of s M (map seen_turn us)) (one_more ts i t at) ∙ ap (run_of s M) (map_append seen_turn (take i ts) (t ∷ []))
     ∙ fold_push (λ E u. after E (go s M None E u)) [] (map seen_turn (take i ts)) (seen_turn t)
 
 -- What a world keeps while the turns of a schedule are made: it stands for the run of the first i turns.

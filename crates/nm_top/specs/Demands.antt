@@ -1,44 +1,114 @@
 -- What a command demands of the files, one thing after the other in the order of refusals.
-use Rattle.std.specs.Prelude.{◌≡◌, ◌⊎◌, ℕ, ◌≤◌, ◌<◌, length, List, [], ◌∷◌, Option, Some, IsNone, IsSomeAnd, MatchOption, ⊤}
+use Rattle.std.specs.Prelude.{◌≡◌, ◌⊎◌, ℕ, ◌≤◌, ◌<◌, length, List, [], ◌∷◌, Option, Some, None, IsNone, IsSomeAnd, MatchOption, true, ⊤}
 use Rattle.std.specs.FinMap.{get}
-use Rattle.nm_base.specs.declared.limits.TheConstants.{MAX_PROGRAM_BYTES, MAX_SCHEDULE_BYTES}
+use Rattle.sha2.specs.Sha256.{sha256}
+use Rattle.nm_base.specs.declared.limits.TheConstants.{MAX_PROGRAM_BYTES, MAX_SCHEDULE_BYTES, MAX_TRACE_BYTES}
 use Rattle.nm_outside.specs.Files.{Files}
 use Rattle.c_tree.specs.declared.program.Program.{Program}
 use Rattle.schedules.specs.declared.schedule.Turn.{Turn}
+use Rattle.event_list.specs.Turns.{all_reached}
+use Rattle.trace_file.specs.Content.{Content}
+use Rattle.trace_file.specs.Outcomes.{IsSpelling}
+use Rattle.cut_witness.specs.Comparisons.{HasEntries}
+use Rattle.replay_core.specs.Gates.{seen_trace}
 use Rattle.nm_top.specs.declared.status.Status.{Status}
-use Rattle.nm_top.specs.declared.status.Status.TheVariants.{Absent, TooLong, ProgramRefused, ScheduleRefused}
+use Rattle.nm_top.specs.declared.status.Status.TheVariants.{
+  Absent,
+  TooLong,
+  ProgramRefused,
+  ScheduleRefused,
+  TraceDamaged,
+  OtherProgram,
+  Stuck,
+  NotItsTrace,
+}
 use Rattle.nm_top.specs.Programs.{Reads}
 use Rattle.nm_top.specs.Schedules.{IsSchedule}
+use Rattle.nm_top.specs.Finishing.{finished}
 
 pub data Demand : Type 0 where
   -- the file of this name has the text of a program
   ProgramText : List ℕ → Demand
   -- the file of this name has the text of a schedule for so many processes
   ScheduleText : List ℕ → ℕ → Demand
+  -- the file of this name has the bytes of a trace
+  TraceText : List ℕ → Demand
+  -- the trace in the second file has the digest of the program file, which is the first
+  SameProgram : List ℕ → List ℕ → Demand
+  -- the second file has the text of a schedule for as many processes as the trace in the first has
+  TraceSchedule : List ℕ → List ℕ → Demand
+  -- the replay of the program in the first file, under the trace in the second, reaches all recorded counts when it is
+  -- finished
+  Finishes : List ℕ → List ℕ → Demand
+  -- the finished replay has the entries of the trace
+  Matches : List ℕ → List ℕ → Demand
 
 -- a file that is fetched, and how many bytes it may have
 pub record Fetch : Type 0 where
   pub name : List ℕ
   pub limit : ℕ
 
+abbrev pub program_file : List ℕ → Fetch
+program_file name = record { name = name; limit = MAX_PROGRAM_BYTES }
+
+abbrev pub schedule_file : List ℕ → Fetch
+schedule_file name = record { name = name; limit = MAX_SCHEDULE_BYTES }
+
+abbrev pub trace_file : List ℕ → Fetch
+trace_file name = record { name = name; limit = MAX_TRACE_BYTES }
+
+-- The file is there, within its limit, and this holds of its bytes.
+abbrev pub HoldsIn : Files → (List ℕ → Type 0) → Fetch → Type 0
+HoldsIn files P fetch = IsSomeAnd (get files fetch.name) (λ bytes. (length bytes ≤ fetch.limit) × P bytes)
+
+-- the file has the bytes of this trace
+abbrev pub HasTrace : Files → List ℕ → Content → Type 0
+HasTrace files name t = HoldsIn files (λ bytes. IsSpelling t bytes) (trace_file name)
+
+-- the two files have the text of this program, and the bytes of this trace with the digest of that text
+pub record AreReplayed (files : Files) (program trace : List ℕ) (p : Program) (t : Content) : Type 0 where
+  pub has_program : HoldsIn files (λ text. Reads text p × (t.digest ≡ sha256 text)) (program_file program)
+  pub has_trace : HasTrace files trace t
+
 -- the file that a demand fetches, if it fetches one
 abbrev pub fetch_of : Demand → Option Fetch
-fetch_of (ProgramText name) = Some (record { name = name; limit = MAX_PROGRAM_BYTES })
-fetch_of (ScheduleText name n) = Some (record { name = name; limit = MAX_SCHEDULE_BYTES })
+fetch_of (ProgramText name) = Some (program_file name)
+fetch_of (ScheduleText name n) = Some (schedule_file name)
+fetch_of (TraceText name) = Some (trace_file name)
+fetch_of (SameProgram program trace) = None
+fetch_of (TraceSchedule trace name) = Some (schedule_file name)
+fetch_of (Finishes program trace) = None
+fetch_of (Matches program trace) = None
+
+-- the trace in the second file has the digest of the first
+pub record HasDigest (files : Files) (program trace : List ℕ) (t : Content) (digest : List ℕ) : Type 0 where
+  pub has_trace : HasTrace files trace t
+  pub of_file : HoldsIn files (λ text. digest ≡ sha256 text) (program_file program)
 
 -- what is demanded of the files, and of the bytes of the one that is fetched
 abbrev pub Admits : Demand → Files → List ℕ → Type 0
-Admits (ProgramText name) files text = (program : Program) × Reads text program
+Admits (ProgramText name) files text = (p : Program) × Reads text p
 Admits (ScheduleText name n) files text = (turns : List Turn) × IsSchedule n text turns
+Admits (TraceText name) files text = (t : Content) × IsSpelling t text
+Admits (SameProgram program trace) files text = (t : Content) × HasDigest files program trace t t.digest
+Admits (TraceSchedule trace name) files text =
+    (t : Content) × (turns : List Turn) × HasTrace files trace t × IsSchedule t.n text turns
+Admits (Finishes program trace) files text =
+    (p : Program) × (t : Content) × AreReplayed files program trace p t
+    × (all_reached (seen_trace t) (finished p t).events ≡ true)
+Admits (Matches program trace) files text =
+    (p : Program) × (t : Content) × AreReplayed files program trace p t
+    × HasEntries t.mask t.notes t.lost (finished p t).events
 
 -- the status of a demand whose file is there and that isn't met
 abbrev pub refusal_of : Demand → Status
 refusal_of (ProgramText name) = ProgramRefused
 refusal_of (ScheduleText name n) = ScheduleRefused
-
--- The file is there, within its limit, and this holds of its bytes.
-abbrev pub HoldsIn : Files → (List ℕ → Type 0) → Fetch → Type 0
-HoldsIn files P fetch = IsSomeAnd (get files fetch.name) (λ bytes. (length bytes ≤ fetch.limit) × P bytes)
+refusal_of (TraceText name) = TraceDamaged
+refusal_of (SameProgram program trace) = OtherProgram
+refusal_of (TraceSchedule trace name) = ScheduleRefused
+refusal_of (Finishes program trace) = Stuck
+refusal_of (Matches program trace) = NotItsTrace
 
 -- It isn't there.
 abbrev pub IsMissing : Files → Fetch → Type 0

@@ -9,7 +9,7 @@ use Rattle.event_list.specs.Turns.{run_of}
 use Rattle.report.specs.Runs.{blocks}
 use Rattle.nm_top.specs.Programs.{Reads}
 use Rattle.nm_top.specs.Schedules.{IsSchedule, seen_turn}
-use Rattle.nm_top.specs.Demands.{Demand, ProgramText, ScheduleText, Holds}
+use Rattle.nm_top.specs.Demands.{Demand, ProgramText, ScheduleText, HoldsIn, program_file, schedule_file}
 
 abbrev pub run_demands : List ℕ → ℕ → List ℕ → List Demand
 run_demands program n schedule = ProgramText program ∷ ScheduleText schedule n ∷ []
@@ -24,6 +24,6 @@ pub record RunPrints (program : List ℕ) (n : ℕ) (schedule : List ℕ) (mask 
     (printed : List ℕ) : Type 0 where
   pub of_program : Program
   pub turns : List Turn
-  pub has_program : Holds (ProgramText program) (λ text. Reads text of_program) files
-  pub has_schedule : Holds (ScheduleText schedule n) (λ text. IsSchedule n text turns) files
+  pub has_program : HoldsIn files (λ text. Reads text of_program) (program_file program)
+  pub has_schedule : HoldsIn files (λ text. IsSchedule n text turns) (schedule_file schedule)
   pub is : printed ≡ blocks of_program n (run_of_program of_program n mask turns)

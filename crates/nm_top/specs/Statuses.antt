@@ -1,9 +1,7 @@
 -- The statuses, with their exit codes and with the lines of refusals.
-use Rattle.std.specs.Prelude.{◌≡◌, ℕ, List, [], Bool, true, false, Option, ⊤}
-use Rattle.std.specs.Io.KnownBytes.{Appends}
+use Rattle.std.specs.Prelude.{ℕ, List, Bool, true, false, ⊤}
 use Rattle.report.specs.declared.cause.Refusal.{Refusal}
 use Rattle.report.specs.declared.cause.Refusal.TheVariants as refusals
-use Rattle.report.specs.Texts.{refusal_line, usage_line}
 use Rattle.nm_top.specs.declared.status.Status.{Status}
 use Rattle.nm_top.specs.declared.status.Status.TheVariants.{
   Done,
@@ -14,7 +12,11 @@ use Rattle.nm_top.specs.declared.status.Status.TheVariants.{
   TooLong,
   ProgramRefused,
   ScheduleRefused,
+  TraceDamaged,
+  OtherProgram,
+  Stuck,
   WantOfMemory,
+  NotItsTrace,
 }
 
 abbrev pub exit_code : Status → ℕ
@@ -26,7 +28,11 @@ exit_code WriteFault = 4
 exit_code TooLong = 5
 exit_code ProgramRefused = 6
 exit_code ScheduleRefused = 7
+exit_code TraceDamaged = 8
+exit_code OtherProgram = 9
+exit_code Stuck = 10
 exit_code WantOfMemory = 11
+exit_code NotItsTrace = 12
 
 -- the status that a refusal ends with
 abbrev pub status_of : Refusal → Status
@@ -36,8 +42,14 @@ status_of (refusals.ReadFault name) = ReadFault
 status_of (refusals.TooLong name) = TooLong
 status_of (refusals.ProgramRefused kind line) = ProgramRefused
 status_of (refusals.ScheduleRefused kind place) = ScheduleRefused
+status_of (refusals.TraceDamaged kind place) = TraceDamaged
+status_of (refusals.OtherProgram of_trace of_file) = OtherProgram
+status_of (refusals.Stuck n events counts) = Stuck
+status_of (refusals.Stopped turns) = WantOfMemory
+status_of (refusals.NotItsTrace letter) = NotItsTrace
 
--- whether the status refuses what files hold: one is absent, or too long, or has another text than is demanded
+-- whether the status refuses what files hold: one is absent, or too long, or something that is demanded of them isn't
+-- met
 abbrev pub is_of_files : Status → Bool
 is_of_files Done = false
 is_of_files Usage = false
@@ -46,23 +58,11 @@ is_of_files WriteFault = false
 is_of_files WantOfMemory = false
 is_of_files status = true
 
--- The refusal is one of a command: it names no file, or one of which this holds.
+-- The refusal is one of a command's demands: it names no file, or one of which this holds.
 abbrev pub IsOf : (List ℕ → Type 0) → Refusal → Type 0
 IsOf P refusals.Usage = ⊥
+IsOf P (refusals.Stopped turns) = ⊥
 IsOf P (refusals.Absent name) = P name.now
 IsOf P (refusals.ReadFault name) = P name.now
 IsOf P (refusals.TooLong name) = P name.now
 IsOf P refusal = ⊤
-
--- A refusal has its one line, which names no file or one of which this holds; want of memory has none. Any text may go
--- with Done, and with a write fault.
-abbrev pub IsLineOf : (List ℕ → Type 0) → Status → List ℕ → Type 0
-IsLineOf P Done text = ⊤
-IsLineOf P WriteFault text = ⊤
-IsLineOf P WantOfMemory text = text ≡ []
-IsLineOf P Usage text = text ≡ usage_line
-IsLineOf P status text = (r : Refusal) × (status_of r ≡ status) × IsOf P r × (text ≡ refusal_line r)
-
--- That and nothing else was given.
-abbrev pub PrintsLine : (List ℕ → Type 0) → Status → Option (List ℕ) → Option (List ℕ) → Type 0
-PrintsLine P status before after = (text : List ℕ) × IsLineOf P status text × Appends before after text

@@ -1,5 +1,11 @@
 pub mod Begun
+pub mod Certifications
 pub mod Named
+pub mod Recorded
+pub mod Replaying
+pub mod Rewriting
+pub mod Tellings
 pub mod Top
 pub mod Unread
+pub mod Upgraded
 pub mod Works

@@ -1,6 +1,7 @@
 //! The command `run`.
 
-ghost use Rattle.std.specs.Prelude.{◌≡◌, ◌<◌, ◌≤◌, ◌⊎◌, IfSome, IfOk};
+ghost use Rattle.std.specs.Prelude.{◌≡◌, IfSome, IfOk};
+ghost use Rattle.sha2.specs.Sha256.{sha256};
 ghost use Rattle.c_tree.specs.declared.program.Program.{Program};
 ghost use Rattle.stack_code.specs.View.{seen_code};
 ghost use Rattle.c_process.specs.Standing.{IsCodeOf};
@@ -9,11 +10,12 @@ ghost use Rattle.report.specs.Runs.{blocks};
 ghost use Rattle.nm_top.specs.Commands.{Run};
 ghost use Rattle.nm_top.specs.Programs.{Reads};
 ghost use Rattle.nm_top.specs.Schedules.{IsSchedule};
-ghost use Rattle.nm_top.specs.Demands.{Holds, IsFetched, ProgramText, ScheduleText};
+ghost use Rattle.nm_top.specs.Demands.{HoldsIn, IsFetched, program_file, schedule_file};
 ghost use Rattle.nm_top.specs.Runs.{run_demands, run_of_program};
+ghost use Rattle.nm_top.specs.private.Named.{AreFew};
 ghost use Rattle.nm_top.specs.private.Works.{Carries, Counts, Gives, Tries, outside};
 
-use crate::fetch::{program_in, schedule_in};
+use crate::fetch::{Source, program_in, schedule_in};
 use crate::start::{compiled, world_after};
 use crate::status::Status;
 use crate::stop::Stop;
@@ -34,8 +36,7 @@ fn run_code<O: Sink>(
     mask: u32,
     out: &mut O,
 ) -> Status
-    requires some { 0 < processes }
-    requires few { processes ≤ 32 }
+    requires range { AreFew processes }
     requires turns { AreFewTurns processes schedule.now }
     requires code { (p : Program) × IsCodeOf p (seen_code code.now) }
     ensures { (p : Program) → IsCodeOf p (seen_code code.now)
@@ -60,8 +61,7 @@ fn run_program<O: Sink>(
     mask: u32,
     out: &mut O,
 ) -> Status
-    requires some { 0 < processes }
-    requires few { processes ≤ 32 }
+    requires range { AreFew processes }
     requires turns { AreFewTurns processes schedule.now }
     ensures { Tries (blocks program.now processes (run_of_program program.now processes mask schedule.now))
         (O.given out.old) (O.given out.new) (O.faults out.old) (O.faults out.new) result }
@@ -72,31 +72,40 @@ fn run_program<O: Sink>(
     run_code(alloc, &code, processes, schedule, mask, out)
 }
 
-// What a run demands: a program, and a schedule for so many processes.
-fn demanded<'a, C: Cabinet>(
+/// What a run demands.
+#[derive(Drop)]
+pub struct RunInput {
+    pub source: Source,
+    pub schedule: Schedule,
+}
+
+/// What a run demands: a program, and a schedule for so many processes.
+pub fn demanded<'a, C: Cabinet>(
     alloc: Global,
     program: &'a str,
     processes: u8,
     schedule: &'a str,
     files: &mut C,
-) -> Result<(Program, Schedule), Stop<'a>>
-    requires some { 0 < processes }
-    requires few { processes ≤ 32 }
+) -> Result<RunInput, Stop<'a>>
+    requires range { AreFew processes }
     ensures gives { IfSome (C.files files.old) (λ held. Gives
-        (λ x. Holds (ProgramText program.now) (λ text. Reads text x.0) held
-        × Holds (ScheduleText schedule.now processes) (λ text. IsSchedule processes text x.1) held)
+        (λ x. HoldsIn held (λ text. Reads text x.source.program × (x.source.digest ≡ sha256 text))
+        (program_file program.now)
+        × HoldsIn held (λ text. IsSchedule processes text x.schedule) (schedule_file schedule.now))
         (run_demands program.now processes schedule.now) held result) }
-    ensures turns { IfOk result (λ x. AreFewTurns processes x.1) }
+    ensures turns { IfOk result (λ x. AreFewTurns processes x.schedule) }
     ensures counts { Counts (IsFetched (run_demands program.now processes schedule.now)) (C.absents files.old)
         (C.absents files.new) (C.read_faults files.old) (C.read_faults files.new) result }
     ensures files { C.files files.new ≡ C.files files.old }
+    ensures writes { C.write_faults files.new ≡ C.write_faults files.old }
+    ensures room { C.sure_room files.new ≡ C.sure_room files.old }
 {
-    let program = match program_in(alloc, files, program) {
-        Ok(program) => program,
+    let source = match program_in(alloc, files, program) {
+        Ok(source) => source,
         Err(stop) => return Err(stop),
     };
     match schedule_in(alloc, files, schedule, processes) {
-        Ok(schedule) => Ok((program, schedule)),
+        Ok(schedule) => Ok(RunInput { source, schedule }),
         Err(stop) => Err(stop),
     }
 }
@@ -112,16 +121,22 @@ pub fn run<C: Cabinet, O: Sink>(
     files: &mut C,
     out: &mut O,
 ) -> Status
-    requires some { 0 < processes }
-    requires few { processes ≤ 32 }
+    requires range { AreFew processes }
     ensures { Carries (Run program.now processes schedule.now mask)
-        (outside (C.files files.old) (C.absents files.old) (C.read_faults files.old) (O.given out.old)
-        (O.faults out.old))
-        (outside (C.files files.new) (C.absents files.new) (C.read_faults files.new) (O.given out.new)
-        (O.faults out.new)) result }
+        (outside (C.files files.old) (C.absents files.old) (C.read_faults files.old) (C.write_faults files.old)
+        (C.sure_room files.old) (O.given out.old) (O.faults out.old))
+        (outside (C.files files.new) (C.absents files.new) (C.read_faults files.new) (C.write_faults files.new)
+        (C.sure_room files.new) (O.given out.new) (O.faults out.new)) result }
 {
     match demanded(alloc, program, processes, schedule, files) {
-        Ok((program, schedule)) => run_program(alloc, &program, processes, &schedule, mask, out),
+        Ok(demanded) => run_program(
+            alloc,
+            &demanded.source.program,
+            processes,
+            &demanded.schedule,
+            mask,
+            out,
+        ),
         Err(stop) => tell(out, &stop),
     }
 }

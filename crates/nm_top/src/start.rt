@@ -1,6 +1,6 @@
 //! The world of a program.
 
-ghost use Rattle.std.specs.Prelude.{◌≡◌, ◌<◌, ◌≤◌, length, IfOk};
+ghost use Rattle.std.specs.Prelude.{◌≡◌, ◌≤◌, length, IfOk};
 ghost use Rattle.c_tree.specs.declared.program.Program.{Program};
 ghost use Rattle.stack_code.specs.View.{seen_code};
 ghost use Rattle.c_process.specs.Standing.{IsCodeOf};
@@ -8,6 +8,7 @@ ghost use Rattle.report.specs.Runs.{RunsProgram};
 ghost use Rattle.schedules.specs.Bounds.{AreFewTurns};
 ghost use Rattle.nm_top.specs.Runs.{run_of_program};
 ghost use Rattle.nm_top.specs.private.Begun.{AreBegun};
+ghost use Rattle.nm_top.specs.private.Named.{AreFew};
 
 use crate::turns::make_turns;
 use c_compile::compile;
@@ -29,8 +30,12 @@ pub fn compiled(alloc: Global, program: &Program) -> Result<Code, WantOfMemory>
     Ok(code)
 }
 
-// The processes of a program, each before its first event.
-fn seats_of<'c>(alloc: Global, code: &'c Code, n: u8) -> Result<Vec<Seat<CProc<'c>>>, WantOfMemory>
+/// The processes of a program, each before its first event.
+pub fn seats_of<'c>(
+    alloc: Global,
+    code: &'c Code,
+    n: u8,
+) -> Result<Vec<Seat<CProc<'c>>>, WantOfMemory>
     requires { n ≤ 32 }
     ensures { IfOk result (λ seats. AreBegun (seen_code code.now) n n seats.items) }
 {
@@ -54,8 +59,7 @@ pub fn world_after<'c>(
     schedule: &Schedule,
     mask: u32,
 ) -> Result<World<CProc<'c>, OrderedMail>, WantOfMemory>
-    requires some { 0 < n }
-    requires few { n ≤ 32 }
+    requires range { AreFew n }
     requires turns { AreFewTurns n schedule.now }
     requires code { (p : Program) × IsCodeOf p (seen_code code.now) }
     ensures runs { IfOk result (λ w. (p : Program) → IsCodeOf p (seen_code code.now)

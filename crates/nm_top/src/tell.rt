@@ -1,8 +1,8 @@
 //! Telling what stopped a command.
 
-ghost use Rattle.std.specs.Prelude.{◌≡◌, Err};
+ghost use Rattle.std.specs.Prelude.{◌≡◌};
 ghost use Rattle.nm_top.specs.Statuses.{status_of};
-ghost use Rattle.nm_top.specs.private.Works.{Tells};
+ghost use Rattle.nm_top.specs.private.Works.{Tells, work_of};
 
 use crate::status::Status;
 use crate::stop::Stop;
@@ -19,12 +19,17 @@ fn status_of(refused: &Refusal<'_>) -> Status
         Refusal::TooLong { .. } => Status::TooLong,
         Refusal::ProgramRefused { .. } => Status::ProgramRefused,
         Refusal::ScheduleRefused { .. } => Status::ScheduleRefused,
+        Refusal::TraceDamaged { .. } => Status::TraceDamaged,
+        Refusal::OtherProgram { .. } => Status::OtherProgram,
+        Refusal::Stuck { .. } => Status::Stuck,
+        Refusal::Stopped { .. } => Status::WantOfMemory,
+        Refusal::NotItsTrace { .. } => Status::NotItsTrace,
     }
 }
 
 /// Prints the line of what stopped a command, and answers its status. Want of memory has no line.
 pub fn tell<O: Sink>(out: &mut O, stop: &Stop<'_>) -> Status
-    ensures { Tells (Err stop.now) (O.given out.old) (O.given out.new) (O.faults out.old) (O.faults out.new) result }
+    ensures { Tells (work_of stop.now) (O.given out.old) (O.given out.new) (O.faults out.old) (O.faults out.new) result }
 {
     let Stop::Refused(refused) = stop else {
         return Status::WantOfMemory;

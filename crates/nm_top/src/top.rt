@@ -1,20 +1,27 @@
 //! The top call.
 
-ghost use Rattle.std.specs.Prelude.{◌≡◌, ◌≢◌, ◌⊎◌, IfSome, IsTrue, None};
+ghost use Rattle.std.specs.Prelude.{◌≡◌, ◌≢◌, ◌⊎◌, ℕ, IfSome, IsTrue, None, Some};
 ghost use Rattle.nm_outside.specs.Causes.{Rose};
 ghost use Rattle.nm_top.specs.declared.status.Status.{Status};
 ghost use Rattle.nm_top.specs.Commands.{command_of, texts};
-ghost use Rattle.nm_top.specs.Statuses.{PrintsLine, is_of_files};
-ghost use Rattle.nm_top.specs.Replies.{Answers, Owed, PrintsPart};
-ghost use Rattle.nm_top.specs.Answers.{Answer, Due, Fetches, Ready};
+ghost use Rattle.nm_top.specs.Statuses.{is_of_files};
+ghost use Rattle.nm_top.specs.Headline.{Headline};
+ghost use Rattle.nm_top.specs.Lines.{PrintsLine};
+ghost use Rattle.nm_top.specs.Replies.{Answers, Breaks, KeepsOthers, Owed};
+ghost use Rattle.nm_top.specs.Answers.{Answer, Due, MayBreak, Ready, Suffices, written_by};
 ghost use Rattle.nm_top.specs.private.Named.{IsInRange, named};
 ghost use Rattle.nm_top.specs.private.Works.{Carries, outside};
 ghost use Rattle.nm_top.specs.private.Top.{Does};
 
+use crate::certify::certify;
+use crate::finish::finish;
+use crate::record::{Recording, record};
+use crate::replay::replay;
 use crate::run::run;
 use crate::status::Status;
 use crate::stop::Stop;
 use crate::tell::tell;
+use crate::upgrade::upgrade;
 use crate::words::{Command, command_in};
 use nm_outside::{Cabinet, Sink};
 use report::Refusal;
@@ -29,10 +36,10 @@ fn carry_out<C: Cabinet, O: Sink>(
 ) -> Status
     requires { IsInRange command }
     ensures { Carries (named command.entry)
-        (outside (C.files files.old) (C.absents files.old) (C.read_faults files.old) (O.given out.old)
-        (O.faults out.old))
-        (outside (C.files files.new) (C.absents files.new) (C.read_faults files.new) (O.given out.new)
-        (O.faults out.new)) result }
+        (outside (C.files files.old) (C.absents files.old) (C.read_faults files.old) (C.write_faults files.old)
+        (C.sure_room files.old) (O.given out.old) (O.faults out.old))
+        (outside (C.files files.new) (C.absents files.new) (C.read_faults files.new) (C.write_faults files.new)
+        (C.sure_room files.new) (O.given out.new) (O.faults out.new)) result }
 {
     match command {
         Command::Run {
@@ -41,16 +48,39 @@ fn carry_out<C: Cabinet, O: Sink>(
             schedule,
             mask,
         } => run(alloc, program, processes, schedule, mask, files, out),
+        Command::Record {
+            program,
+            processes,
+            schedule,
+            trace,
+            version,
+            mask,
+        } => {
+            let to = Recording {
+                trace,
+                version,
+                mask,
+            };
+            record(alloc, program, processes, schedule, to, files, out)
+        }
+        Command::Replay {
+            program,
+            trace,
+            schedule,
+        } => replay(alloc, program, trace, schedule, files, out),
+        Command::Finish { program, trace } => finish(alloc, program, trace, files, out),
+        Command::Certify { program, trace } => certify(alloc, program, trace, files, out),
+        Command::Upgrade { trace, new } => upgrade(alloc, trace, new, files, out),
     }
 }
 
 // Carries out the command that the words name.
 fn work<C: Cabinet, O: Sink>(alloc: Global, words: &[String], files: &mut C, out: &mut O) -> Status
     ensures { Does (texts words.now)
-        (outside (C.files files.old) (C.absents files.old) (C.read_faults files.old) (O.given out.old)
-        (O.faults out.old))
-        (outside (C.files files.new) (C.absents files.new) (C.read_faults files.new) (O.given out.new)
-        (O.faults out.new)) result }
+        (outside (C.files files.old) (C.absents files.old) (C.read_faults files.old) (C.write_faults files.old)
+        (C.sure_room files.old) (O.given out.old) (O.faults out.old))
+        (outside (C.files files.new) (C.absents files.new) (C.read_faults files.new) (C.write_faults files.new)
+        (C.sure_room files.new) (O.given out.new) (O.faults out.new)) result }
 {
     match command_in(words) {
         Some(command) => carry_out(alloc, command, files, out),
@@ -67,7 +97,7 @@ pub fn racetrace<C: Cabinet, O: Sink>(
     out: &mut O,
 ) -> Status
     // What is answered and printed, and what the files are then, is the answer that is defined for the
-    // words and the files that are told, unless a write or memory failed.
+    // words and the files that are told, unless a write failed.
     ensures answer { Answers (Answer (texts words.now)) (C.files files.old) (C.files files.new) (O.given out.old)
         (O.given out.new) result }
 
@@ -75,11 +105,12 @@ pub fn racetrace<C: Cabinet, O: Sink>(
     ensures usage { result ≡ Status.Usage → command_of (texts words.now) ≡ None }
     ensures no_command { command_of (texts words.now) ≡ None → (result ≡ Status.Usage) ⊎ (result ≡ Status.WriteFault) }
 
-    // A status that refuses what files hold (one is absent, or too long, or its text is none that is demanded) comes
-    // exactly where it is that of the command's first demand which isn't met.
+    // A status that refuses what files hold (one is absent, or too long, or something that is demanded of them isn't
+    // met) comes exactly where it is that of the command's first demand which isn't met.
     ensures refused { IsTrue (is_of_files result) → IfSome (C.files files.old) (Due result (texts words.now)) }
     ensures owed { IfSome (C.files files.old) (λ held. (due : Status) → Due due (texts words.now) held
-        → Owed due (C.read_faults files.old) (C.read_faults files.new) (O.faults out.old) (O.faults out.new) result) }
+        → Owed due (C.read_faults files.old) (C.read_faults files.new) (C.write_faults files.old)
+        (C.write_faults files.new) (O.faults out.old) (O.faults out.new) result) }
 
     // Absent comes exactly where a file wasn't found.
     ensures absent { result ≡ Status.Absent → Rose (C.absents files.old) (C.absents files.new) }
@@ -91,23 +122,39 @@ pub fn racetrace<C: Cabinet, O: Sink>(
     ensures no_read_fault { result ≢ Status.ReadFault → result ≢ Status.WriteFault
         → C.read_faults files.new ≡ C.read_faults files.old }
 
-    // WriteFault comes exactly where a put failed, and leaves a part, from its front, of what would have been printed.
-    ensures write_fault { result ≡ Status.WriteFault → Rose (O.faults out.old) (O.faults out.new) }
+    // WriteFault comes exactly where a put, or a write to a file, failed. After a failed put a part, from its front, of
+    // what would have been printed was; after a failed write to a file nothing was, and the file isn't begun or is a
+    // front of its bytes. No write to a file fails where the cabinet is sure of enough room.
+    ensures write_fault { result ≡ Status.WriteFault
+        → Rose (C.write_faults files.old) (C.write_faults files.new) ⊎ Rose (O.faults out.old) (O.faults out.new) }
+    ensures no_file_fault { result ≢ Status.WriteFault → C.write_faults files.new ≡ C.write_faults files.old }
     ensures no_write_fault { result ≢ Status.WriteFault → O.faults out.new ≡ O.faults out.old }
-    ensures part { result ≡ Status.WriteFault → PrintsPart (Answer (texts words.now))
-        (C.read_faults files.old) (C.read_faults files.new) (C.files files.old) (O.given out.old) (O.given out.new) }
+    ensures sure { IfSome (C.files files.old) (λ held. (room : ℕ) → C.sure_room files.old ≡ Some room
+        → Suffices (texts words.now) held room → C.write_faults files.new ≡ C.write_faults files.old) }
+    ensures breaks { result ≡ Status.WriteFault → Breaks (Answer (texts words.now)) (MayBreak (texts words.now))
+        (C.read_faults files.old) (C.read_faults files.new) (C.files files.old) (C.files files.new) (O.given out.old)
+        (O.given out.new) }
 
-    // A refusal prints its one line, which names a file that the command fetches, and want of memory nothing,
-    // also where the files aren't told.
-    ensures line { PrintsLine (Fetches (texts words.now)) result (O.given out.old) (O.given out.new) }
+    // A refusal prints its one line, which names a file that the command fetches, and want of memory nothing, but for
+    // a recording's line and certificates, also where the files aren't told.
+    ensures line { PrintsLine (texts words.now) result (O.given out.old) (O.given out.new) }
 
     // A command whose demands are met is done.
     ensures complete { IfSome (C.files files.old) (λ held. Ready (texts words.now) held
-        → Owed Status.Done (C.read_faults files.old) (C.read_faults files.new) (O.faults out.old)
-        (O.faults out.new) result) }
+        → Owed Status.Done (C.read_faults files.old) (C.read_faults files.new) (C.write_faults files.old)
+        (C.write_faults files.new) (O.faults out.old) (O.faults out.new) result) }
 
-    // The files stay as they are.
-    ensures files { C.files files.new ≡ C.files files.old }
+    // Where the files hold the trace of a recorded run of the program that they hold, `replay` and `certify` are done,
+    // faults and want of memory aside. Each replay makes a front of what each process did in the recorded run, its
+    // events, states and output, with the same letter at each receive; without a schedule it comes to the recorded
+    // counts. A certificate is printed for each letter that is logged in that run: another run, which keeps both causal
+    // pasts, and in which the last earlier receive that could have accepted the letter accepts it.
+    ensures headline { IfSome (C.files files.old) (λ held. Headline (texts words.now) held (C.read_faults files.old)
+        (C.read_faults files.new) (C.write_faults files.old) (C.write_faults files.new) (O.faults out.old)
+        (O.faults out.new) (O.given out.old) (O.given out.new) result) }
+
+    // No file changes but the one that the command writes.
+    ensures keeps { KeepsOthers (written_by (texts words.now)) (C.files files.old) (C.files files.new) }
 {
     work(alloc, words, files, out)
 }

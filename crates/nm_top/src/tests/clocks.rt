@@ -3,8 +3,10 @@
 ghost use Rattle.std.specs.Prelude.{IfOk};
 ghost use Rattle.schedules.specs.Bounds.{AreFewTurns};
 
-use super::TWO_LETTERS;
 use super::one_process::code_of;
+use super::programs::{
+    ONE_LETTER, REQUESTS, THREE_RECEIVES, TO_ITSELF, TWO_CHANNELS, TWO_LETTERS, TWO_OF_ONE_SENDER,
+};
 use crate::start::world_after;
 use c_process::CProc;
 use mailboxes::{FreeGate, Mail, OrderedMail};
@@ -34,37 +36,6 @@ struct Facts {
     /// The logged letters that wait at the end.
     lost: Vec<Name>,
 }
-
-const ONE_LETTER: &str =
-    "int main(void)\n{\n    if (self() == 0) {\n        printf(\"%d\\n\", receive(1u));\n    } else {\n        send(0, 0, self());\n    }\n    return 0;\n}\n";
-
-const REQUESTS: &str =
-    "int main(void)\n{\n    int i;\n    for (i = 0; i < 2; i++) {\n        if (self() == 0) {\n            send(1, 0, i);\n            receive(2u);\n        } else {\n            receive(1u);\n            send(0, 1, i + 10);\n        }\n    }\n    return 0;\n}\n";
-
-const TWO_OF_ONE_SENDER: &str =
-    "int main(void)\n{\n    if (self() == 1) {\n        send(0, 0, 11);\n        send(0, 0, 22);\n    } else {\n        printf(\"%d \", receive(1u));\n        printf(\"%d\\n\", receive(1u));\n    }\n    return 0;\n}\n";
-
-const TWO_CHANNELS: &str =
-    "int main(void)\n{\n    if (self() == 0) {\n        receive(1u);\n        receive(2u);\n    } else {\n        send(0, self() - 1, 5);\n    }\n    return 0;\n}\n";
-
-const TO_ITSELF: &str =
-    "int main(void)\n{\n    send(0, 0, 1);\n    send(0, 0, 2);\n    receive(1u);\n    receive(1u);\n    send(0, 0, 3);\n    receive(1u);\n    return 0;\n}\n";
-
-// Processes 1 and 2 send process 0 two letters and one, and it receives three.
-const THREE_RECEIVES: &str = "
-int main(void)
-{
-    int i;
-    if (self() == 0) {
-        for (i = 0; i < 3; i++)
-            printf(\"%d\\n\", receive(1u));
-    } else {
-        for (i = self(); i < 3; i++)
-            send(0, 0, self() * 10 + i);
-    }
-    return 0;
-}
-";
 
 fn parts(stamp: &Stamp) -> Parts {
     [stamp.parts[0], stamp.parts[1], stamp.parts[2]]

@@ -1,6 +1,7 @@
 //! Reads and puts that fail, and the exit codes.
 
-use super::{EMPTY, TWO_LETTERS, bytes, told};
+use super::programs::{EMPTY, TWO_LETTERS};
+use super::{bytes, told};
 use crate::Status;
 use nm_outside::{CabinetCall, CabinetFail, SinkFail};
 use std::alloc::Global;
@@ -107,7 +108,11 @@ fn codes(rt: HostRuntime) -> Result<(), Fail> {
         (Status::TooLong, 5),
         (Status::ProgramRefused, 6),
         (Status::ScheduleRefused, 7),
+        (Status::TraceDamaged, 8),
+        (Status::OtherProgram, 9),
+        (Status::Stuck, 10),
         (Status::WantOfMemory, 11),
+        (Status::NotItsTrace, 12),
     ];
     for (status, code) in table {
         assert_eq!(rt; status.code(), code);

@@ -1,6 +1,7 @@
 //! Words, files and texts that are refused.
 
-use super::{EMPTY, TWO_LETTERS, bytes, holds, told};
+use super::programs::{EMPTY, TWO_LETTERS};
+use super::{bytes, holds, told};
 use crate::Status;
 use std::alloc::Global;
 use std::process::Abort;
@@ -37,6 +38,31 @@ fn words(rt: HostRuntime) -> Result<(), Fail> {
         "run P 0 S 1",
         "walk P 1 S 1",
         "run P 1 S 1 1",
+        "record P 1",
+        "record P 1 S",
+        "record P 1 S T 0 0",
+        "record P 0 S T",
+        "record P 33 S T",
+        "record P 33 S T 1",
+        "record P S 1 T",
+        "record P 1 S T -1",
+        "record P 1 S T x",
+        "record P 1 S T 4294967296",
+        "record G 1 S T 00000000001",
+        "Record P 1 S T",
+        "replay",
+        "replay P",
+        "replay P T S 0",
+        "certify",
+        "certify P",
+        "certify P T S",
+        "upgrade",
+        "upgrade T",
+        "upgrade T T T",
+        "walk P T",
+        "debug P T",
+        "find P T S",
+        "soak 7",
         "--help",
         "--version",
     ];

@@ -1,6 +1,7 @@
 //! Programs that run.
 
-use super::{EMPTY, TWO_LETTERS, bytes, holds, told};
+use super::programs::{EMPTY, TWO_LETTERS, TWO_OF_ONE_SENDER};
+use super::{bytes, holds, told};
 use crate::Status;
 use std::alloc::Global;
 use std::process::Abort;
@@ -81,21 +82,6 @@ fn letters(rt: HostRuntime) -> Result<(), Fail> {
     }
     Ok(())
 }
-
-// Process 1 sends two letters on channel 0, and process 0 receives them.
-const TWO_OF_ONE_SENDER: &str = "
-int main(void)
-{
-    if (self() == 1) {
-        send(0, 0, 11);
-        send(0, 0, 22);
-    } else {
-        printf(\"%d \", receive(1u));
-        printf(\"%d\\n\", receive(1u));
-    }
-    return 0;
-}
-";
 
 /// On an ordered channel the letters of one sender are accepted in the order of their sends,
 /// whatever the schedule picks; another channel in the mask changes nothing.

@@ -10,5 +10,5 @@ returns-in-Err-clause-gives g c = IfSome_then (g.C.Cabinet.files c.args.files.no
 
 pub returns-clause-gives : goal.returns-clause-gives
 returns-clause-gives g c = IfSome_then (g.C.Cabinet.files c.args.files.now) c.in-Ok.ensures.found
-    (λ held there. unmet_stops (ProgramText c.args.name.now) held _ refl c.deref.result.now (held_read held _ c.in-Ok.text.items c.deref.result.now c.deref.ensures.value there) c.unread.result
-    (c.unread.ensures.unmet c.args.name.now c.deref.result.now c.in-Err-program_of.ensures.refused))
+    (λ held there. unmet_stops (ProgramText c.args.name.now) held _ refl c.deref-2.result.now (held_read held _ c.in-Ok.text.items c.deref-2.result.now c.deref-2.ensures.value there) c.unread.result
+    (c.unread.ensures.unmet held c.args.name.now c.deref-2.result.now c.in-Err-program_of.ensures.refused))

@@ -11,4 +11,4 @@ returns-in-Err-clause-gives g c = IfSome_then (g.C.Cabinet.files c.args.files.no
 pub returns-clause-gives : goal.returns-clause-gives
 returns-clause-gives g c = IfSome_then (g.C.Cabinet.files c.args.files.now) c.in-Ok.ensures.found
     (λ held there. unmet_stops (ScheduleText c.args.name.now c.args.processes) held _ refl c.deref.result.now (held_read held _ c.in-Ok.text.items c.deref.result.now c.deref.ensures.value there) c.unscheduled.result
-    (c.unscheduled.ensures.unmet c.args.name.now c.args.processes c.deref.result.now c.in-Err-read_schedule.ensures.refused))
+    (c.unscheduled.ensures.unmet held c.args.name.now c.args.processes c.deref.result.now c.in-Err-read_schedule.ensures.refused))
