@@ -80,7 +80,7 @@ module _ (held : Files) where
   reason_refuses (Matches program trace) text line why meets =
       let same = one_replay program trace meets.0 why.of_program meets.1 why.content meets.2 why.has in
       let entries = subst (λ (p : Program). HasEntries why.content.mask why.content.notes why.content.lost (finished p why.content).events) same.0
-          (subst (λ (t : Content). HasEntries t.mask t.notes t.lost (finished meets.0 t).events) same.1 meets.3) in
+      (subst (λ (t : Content). HasEntries t.mask t.notes t.lost (finished meets.0 t).events) same.1 meets.3) in
       let e : Differs why.first ≡ Same = one_comparison why.content.mask why.content.notes why.content.lost (finished why.of_program why.content).events (Differs why.first) Same why.is_first entries in
       absurd cc
 

@@ -61,8 +61,13 @@ module _ (held : Files) (program trace : List ℕ) (p : Program) (t : Content) (
 
   certify_done : (text : List ℕ) → IsCertifyWork p t (Whole text) → CommandAnswer (Certify program trace) held (reply statuses.Done text held)
   certify_done text is = inl (behind_pair held program trace p t h (Finishes program trace ∷ Matches program trace ∷ []) (IsDone (Certify program trace) held) _
-      (inr (inr (finishes is.0, inr (inr ((p, t, h, is.1),
-      (text, held, (record { of_program = p; content = t; has = h; text = is.2.0; certified = is.2.1; is = is.2.2 }, refl), refl)))))))
+      (inr (inr (
+        finishes is.0,
+        inr (inr (
+          (p, t, h, is.1),
+          (text, held, (record { of_program = p; content = t; has = h; text = is.2.0; certified = is.2.1; is = is.2.2 }, refl), refl),
+        )),
+      ))))
 
   certify_stuck : (n : ℕ) (events counts : List ℕ) → IsStuckWork p t n events counts → CommandAnswer (Certify program trace) held (reply statuses.Stuck (stuck_line n events counts) held)
   certify_stuck n events counts is = inl (behind_pair held program trace p t h (Finishes program trace ∷ Matches program trace ∷ []) (IsDone (Certify program trace) held) _
@@ -71,10 +76,12 @@ module _ (held : Files) (program trace : List ℕ) (p : Program) (t : Content) (
   certify_differs : (letter : LetterId) → IsCertifyWork p t (Refusing (refusals.NotItsTrace letter))
       → CommandAnswer (Certify program trace) held (reply statuses.NotItsTrace (refusal_line (refusals.NotItsTrace letter)) held)
   certify_differs letter is = inl (behind_pair held program trace p t h (Finishes program trace ∷ Matches program trace ∷ []) (IsDone (Certify program trace) held) _
-      (inr (inr (finishes is.0,
-      stops_on (Matches program trace ∷ []) [] (IsDone (Certify program trace) held) held (Refused (refusals.NotItsTrace letter))
-      (unmet_at_once (Matches program trace) held refl (Refused (refusals.NotItsTrace letter))
-      (refl, record { of_program = p; content = t; has = h; first = letter; is_first = is.1; is = refl }))))))
+      (inr (inr (
+        finishes is.0,
+        stops_on (Matches program trace ∷ []) [] (IsDone (Certify program trace) held) held (Refused (refusals.NotItsTrace letter))
+            (unmet_at_once (Matches program trace) held refl (Refused (refusals.NotItsTrace letter))
+            (refl, record { of_program = p; content = t; has = h; first = letter; is_first = is.1; is = refl })),
+      ))))
 
   certify_short : (text : List ℕ) → IsCertifyWork p t (Short text) → CommandAnswer (Certify program trace) held (reply statuses.WantOfMemory text held)
   certify_short text (inl is) = subst (λ (u : List ℕ). CommandAnswer (Certify program trace) held (reply statuses.WantOfMemory u held)) (sym is) (nothing_short (Certify program trace) held)

@@ -85,16 +85,21 @@ module _ (program : List ℕ) (n : ℕ) (schedule trace : List ℕ) (version mas
         held_more held (program_file program) (λ text. Reads text p × (digest ≡ sha256 text)) (Admits (ProgramText program) held) (λ text r. (p, r.0)) has.has_program,
         inr (inr (
           held_more held (schedule_file schedule) (λ text. IsSchedule n text turns) (Admits (ScheduleText schedule n) held) (λ text r. (turns, r)) has.has_schedule,
-          (text, insert held trace (spelling is.content), record {
-            of_program = p;
-            digest = digest;
-            turns = turns;
-            has = has;
-            content = is.content;
-            is_trace = is.is_trace;
-            is = is.is;
-            leaves = refl;
-          }, refl),
+          (
+            text,
+            insert held trace (spelling is.content),
+            record {
+              of_program = p;
+              digest = digest;
+              turns = turns;
+              has = has;
+              content = is.content;
+              is_trace = is.is_trace;
+              is = is.is;
+              leaves = refl;
+            },
+            refl,
+          ),
         )),
       ))),
     )
@@ -103,7 +108,29 @@ module _ (program : List ℕ) (n : ℕ) (schedule trace : List ℕ) (version mas
     record_works (Some held) G (Short text) has (inr is) = (
       insert held trace (spelling is.content),
       is.leaves,
-      inr (text, insert held trace (spelling is.content), inr (record {
+      inr (
+        text,
+        insert held trace (spelling is.content),
+        inr (record {
+          of_program = p;
+          digest = digest;
+          turns = turns;
+          has = has;
+          many = is.many;
+          within = is.within;
+          content = is.content;
+          is_trace = is.is_trace;
+          is = is.is;
+          leaves = refl;
+        }),
+        refl,
+      ),
+    )
+    record_works (Some held) G Broken has (inl is) = (held, is, inl refl)
+    record_works (Some held) G Broken has (inr is) = (
+      insert held trace _,
+      is.leaves,
+      inr (record {
         of_program = p;
         digest = digest;
         turns = turns;
@@ -112,23 +139,10 @@ module _ (program : List ℕ) (n : ℕ) (schedule trace : List ℕ) (version mas
         within = is.within;
         content = is.content;
         is_trace = is.is_trace;
-        is = is.is;
+        bytes = is.bytes;
         leaves = refl;
-      }), refl),
+      }),
     )
-    record_works (Some held) G Broken has (inl is) = (held, is, inl refl)
-    record_works (Some held) G Broken has (inr is) = (insert held trace _, is.leaves, inr (record {
-      of_program = p;
-      digest = digest;
-      turns = turns;
-      has = has;
-      many = is.many;
-      within = is.within;
-      content = is.content;
-      is_trace = is.is_trace;
-      bytes = is.bytes;
-      leaves = refl;
-    }))
     record_works (Some held) G (Refusing r) has is = absurd is
 
     record_is_work : (F G : Option Files) (work : Work) → IsRecordWork words p digest turns F G work

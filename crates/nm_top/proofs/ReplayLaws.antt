@@ -80,8 +80,7 @@ module _ {M : Type 0} where
         let R = replayed p t (take i ts) in
         let g = gone (script_of p t.n) (seen_trace t) R k.0.replays in
         let next : replayed p t (take (i + 1) ts) ≡ after R (outcome what) =
-        replay_more (script_of p t.n) (seen_trace t) ts i u at ∙ ap (after R) g.is in
-        (
+        replay_more (script_of p t.n) (seen_trace t) ts i u at ∙ ap (after R) g.is in (
           subst (ReplaysProgram new p t) (sym next) (replay_goes_on now new p t R (after R (outcome what)) k.0 same g.stands),
           omega (arith, k.1, counts R, ap length next),
         );

@@ -50,15 +50,20 @@ module _ (F : Option Files) where
     held_more held (program_file program) (λ text. Reads text p × (digest ≡ sha256 text)) (Admits (ProgramText program) held) (λ text r. (p, r.0)) k.0,
     inr (inr (
       held_more held (schedule_file schedule) (λ text. IsSchedule n text turns) (Admits (ScheduleText schedule n) held) (λ text r. (turns, r)) k.1,
-      (blocks p n (run_of_program p n mask turns), held, (
-        record {
-          of_program = p;
-          turns = turns;
-          has_program = held_more held (program_file program) (λ text. Reads text p × (digest ≡ sha256 text)) (λ text. Reads text p) (λ text r. r.0) k.0;
-          has_schedule = k.1;
-          is = refl;
-        },
+      (
+        blocks p n (run_of_program p n mask turns),
+        held,
+        (
+          record {
+            of_program = p;
+            turns = turns;
+            has_program = held_more held (program_file program) (λ text. Reads text p × (digest ≡ sha256 text)) (λ text. Reads text p) (λ text r. r.0) k.0;
+            has_schedule = k.1;
+            is = refl;
+          },
+          refl,
+        ),
         refl,
-      ), refl),
+      ),
     )),
   ))))

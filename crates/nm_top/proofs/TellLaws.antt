@@ -96,12 +96,18 @@ module _ (p : Program) (t : Content) where
     pub stuck_told : (stop : Stop) (events : List ℕ) (status : Status) → IsStuckStop t events stop → all_reached (seen_trace t) (finished p t).events ≡ false
         → ((q : ℕ) → slice_index events q ≡ count (finished p t).events q) → Tells (work_of stop) before after was now status
         → (n : ℕ) × (made : List ℕ) × (counts : List ℕ) × IsStuckWork p t n made counts × Tells (Refusing (refusals.Stuck n made counts)) before after was now status
-    stuck_told (Refused (refusals.Stuck n made counts)) events status is below events_are tells = (n, made, counts, record {
-      below = below;
-      n_is = is.0;
-      events_are = λ q. ap (λ (xs : List ℕ). slice_index xs q) is.1 ∙ events_are q;
-      counts_are = is.2;
-    }, tells)
+    stuck_told (Refused (refusals.Stuck n made counts)) events status is below events_are tells = (
+      n,
+      made,
+      counts,
+      record {
+        below = below;
+        n_is = is.0;
+        events_are = λ q. ap (λ (xs : List ℕ). slice_index xs q) is.1 ∙ events_are q;
+        counts_are = is.2;
+      },
+      tells,
+    )
     stuck_told Memory events status is below events_are tells = absurd is
     stuck_told (Refused refusals.Usage) events status is below events_are tells = absurd is
     stuck_told (Refused (refusals.Absent name)) events status is below events_are tells = absurd is

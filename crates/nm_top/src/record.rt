@@ -51,10 +51,7 @@ fn put_recorded<O: Sink>(
 }
 
 // Prints what was recorded, or the one line of a recording that stopped.
-fn tell_recorded<O: Sink>(
-    out: &mut O,
-    recorded: &Recorded<CProc<'_>, OrderedMail>,
-) -> Status
+fn tell_recorded<O: Sink>(out: &mut O, recorded: &Recorded<CProc<'_>, OrderedMail>) -> Status
     ensures { (p : Program) (E : List Event) → RunsProgram recorded.now.world p E
         → Tells (recorded_work recorded.now.stopped (blocks p (length recorded.now.world.processes) E
         ++ trace_line recorded.now.notes recorded.now.lost recorded.now.bytes))

@@ -31,7 +31,11 @@ pub fn compiled(alloc: Global, program: &Program) -> Result<Code, WantOfMemory>
 }
 
 /// The processes of a program, each before its first event.
-pub fn seats_of<'c>(alloc: Global, code: &'c Code, n: u8) -> Result<Vec<Seat<CProc<'c>>>, WantOfMemory>
+pub fn seats_of<'c>(
+    alloc: Global,
+    code: &'c Code,
+    n: u8,
+) -> Result<Vec<Seat<CProc<'c>>>, WantOfMemory>
     requires { n ≤ 32 }
     ensures { IfOk result (λ seats. AreBegun (seen_code code.now) n n seats.items) }
 {

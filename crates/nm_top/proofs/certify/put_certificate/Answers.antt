@@ -16,12 +16,12 @@ pub returns-in-Ok-certificate : goal.returns-in-Ok-certificate
 returns-in-Ok-certificate g c = λ p n run.
     let w = c.in-Some.w in
     let is = certifies p n c.args.mask c.args.events.now.events c.args.id c.in-Ok.found w c.in-Some.is c.in-Ok.ensures.certificate
-        (c.in-Ok.ensures.carried (script_of p n) (scripts_are_lawful p n) run) in
+    (c.in-Ok.ensures.carried (script_of p n) (scripts_are_lawful p n) run) in
     gave_one p n c.args.mask c.args.events.now.events _ _ _ _ c.args.id w is c.certificate.result c.in-Ok-certificate.is c.certificate.ensures
 
 pub returns : goal.returns
 returns g c = λ p n run.
     let w = c.in-Some.w in
     let is = certifies p n c.args.mask c.args.events.now.events c.args.id c.in-Ok.found w c.in-Some.is c.in-Ok.ensures.certificate
-        (c.in-Ok.ensures.carried (script_of p n) (scripts_are_lawful p n) run) in
+    (c.in-Ok.ensures.carried (script_of p n) (scripts_are_lawful p n) run) in
     gave_part p n c.args.mask c.args.events.now.events _ _ _ _ c.args.id w is c.certificate.result c.in-Err.field-0 c.in-Err.is c.certificate.ensures

@@ -17,7 +17,7 @@ pub returns-in-Err : goal.returns-in-Err
 returns-in-Err g c = λ p n run.
     let t = c.args.trace.now in
     let puts = same_puts p n t.mask c.args.events.now.events _ _ _ _ c.mask.result (map (λ (note : AcceptNote). note.id) c.notes-notes.result.now) (map (λ (note : AcceptNote). note.id) t.notes)
-        c.put_noted.result c.mask.ensures (ap (map (λ (note : AcceptNote). note.id)) c.notes-notes.ensures) (c.put_noted.ensures p n) run in
+    c.put_noted.result c.mask.ensures (ap (map (λ (note : AcceptNote). note.id)) c.notes-notes.ensures) (c.put_noted.ensures p n) run in
     halted_first p n t.mask c.args.events.now.events t.notes t.lost _ _ _ _ c.put_noted.result c.in-Err.halt c.halted.result c.in-Err.is puts c.halted.ensures.write c.halted.ensures.memory
 
 pub put_lost-requires-clause-sound : goal.put_lost-requires-clause-sound
@@ -32,7 +32,7 @@ pub returns-in-Err-put_lost : goal.returns-in-Err-put_lost
 returns-in-Err-put_lost g c = λ p n run.
     let t = c.args.trace.now in
     let puts = same_puts p n t.mask c.args.events.now.events _ _ _ _ c.mask.result (map (λ (note : AcceptNote). note.id) c.notes-notes.result.now) (map (λ (note : AcceptNote). note.id) t.notes)
-        c.put_noted.result c.mask.ensures (ap (map (λ (note : AcceptNote). note.id)) c.notes-notes.ensures) (c.put_noted.ensures p n) run in
+    c.put_noted.result c.mask.ensures (ap (map (λ (note : AcceptNote). note.id)) c.notes-notes.ensures) (c.put_noted.ensures p n) run in
     let more = same_puts p n t.mask c.args.events.now.events _ _ _ _ c.mask-2.result c.lost-lost.result.now t.lost c.put_lost.result c.mask-2.ensures c.lost-lost.ensures (c.put_lost.ensures p n) run in
     halted_second p n t.mask c.args.events.now.events t.notes t.lost _ _ _ _ _ _ c.put_noted.result c.put_lost.result c.in_default.is puts more
     c.in-Err-put_lost.halt c.halted-in-Err-put_lost.result c.in-Err-put_lost.is c.halted-in-Err-put_lost.ensures.write c.halted-in-Err-put_lost.ensures.memory
@@ -41,7 +41,7 @@ pub returns-in-Ok : goal.returns-in-Ok
 returns-in-Ok g c = λ p n run.
     let t = c.args.trace.now in
     let puts = same_puts p n t.mask c.args.events.now.events _ _ _ _ c.mask.result (map (λ (note : AcceptNote). note.id) c.notes-notes.result.now) (map (λ (note : AcceptNote). note.id) t.notes)
-        c.put_noted.result c.mask.ensures (ap (map (λ (note : AcceptNote). note.id)) c.notes-notes.ensures) (c.put_noted.ensures p n) run in
+    c.put_noted.result c.mask.ensures (ap (map (λ (note : AcceptNote). note.id)) c.notes-notes.ensures) (c.put_noted.ensures p n) run in
     let more = same_puts p n t.mask c.args.events.now.events _ _ _ _ c.mask-2.result c.lost-lost.result.now t.lost c.put_lost.result c.mask-2.ensures c.lost-lost.ensures (c.put_lost.ensures p n) run in
     let all = given_named p n t.mask c.args.events.now.events t.notes t.lost _ _ _ _ _ _ c.put_noted.result c.put_lost.result c.in_default.is puts more c.in_default-put_lost.is in
     let many : length c.notes-notes.result.now + length c.lost-lost.result.now ≡ length (entries_of t) =
@@ -52,7 +52,7 @@ pub returns-in-Err-certificates_line : goal.returns-in-Err-certificates_line
 returns-in-Err-certificates_line g c = λ p n run.
     let t = c.args.trace.now in
     let puts = same_puts p n t.mask c.args.events.now.events _ _ _ _ c.mask.result (map (λ (note : AcceptNote). note.id) c.notes-notes.result.now) (map (λ (note : AcceptNote). note.id) t.notes)
-        c.put_noted.result c.mask.ensures (ap (map (λ (note : AcceptNote). note.id)) c.notes-notes.ensures) (c.put_noted.ensures p n) run in
+    c.put_noted.result c.mask.ensures (ap (map (λ (note : AcceptNote). note.id)) c.notes-notes.ensures) (c.put_noted.ensures p n) run in
     let more = same_puts p n t.mask c.args.events.now.events _ _ _ _ c.mask-2.result c.lost-lost.result.now t.lost c.put_lost.result c.mask-2.ensures c.lost-lost.ensures (c.put_lost.ensures p n) run in
     let all = given_named p n t.mask c.args.events.now.events t.notes t.lost _ _ _ _ _ _ c.put_noted.result c.put_lost.result c.in_default.is puts more c.in_default-put_lost.is in
     let many : length c.notes-notes.result.now + length c.lost-lost.result.now ≡ length (entries_of t) =
