@@ -16,9 +16,9 @@ use Rattle.nm_top.specs.declared.stop.Stop.TheVariants.{Refused, Memory}
 use Rattle.nm_top.specs.Commands.{Command, command_of}
 use Rattle.nm_top.specs.Statuses.{status_of, IsOf}
 use Rattle.nm_top.specs.Lines.{IsLineOf, MayStopAt, PrintsLine}
-use Rattle.nm_top.specs.Replies.{Reply, reply, Says, Answers, CutShort, CutOff, Breaks, KeepsOthers}
+use Rattle.nm_top.specs.Replies.{Reply, reply, Says, Answers, CutShort, Breaks, KeepsOthers}
 use Rattle.nm_top.specs.Demands.{Demand, Fetch, fetch_of, IsFetched}
-use Rattle.nm_top.specs.Answers.{CommandAnswer, Demanding, IsDone, Answer, Fetches, IsBroken, IsEnough, MayBreak, Suffices, demands_of, written_of, written_by}
+use Rattle.nm_top.specs.Answers.{CommandAnswer, Demanding, IsDone, Answer, Fetches, IsBroken, IsEnough, MayBreak, Suffices, demands_of, written_of}
 use Rattle.nm_top.specs.private.Works.{
   Work,
   Whole,

@@ -29,7 +29,7 @@ use Rattle.cut_witness.specs.declared.certificates.Witness.{Witness}
 use Rattle.cut_witness.specs.Certificates.{IsCertificate, IsCarriedOut}
 use Rattle.cut_witness.specs.declared.comparisons.Compared.{Compared}
 use Rattle.cut_witness.specs.declared.comparisons.Compared.TheVariants.{Differs}
-use Rattle.cut_witness.specs.Comparisons.{Entry, Noted, Missed, HasEntries, IsCompared, letter_in, trace_entries}
+use Rattle.cut_witness.specs.Comparisons.{Noted, Missed, HasEntries, IsCompared, letter_in, trace_entries}
 use Rattle.report.specs.declared.cause.Refusal.TheVariants.{NotItsTrace}
 use Rattle.report.specs.declared.cause.Refusal.TheVariants as refusals
 use Rattle.report.specs.Printing.{Prints}

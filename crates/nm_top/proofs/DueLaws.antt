@@ -1,5 +1,5 @@
 -- Which demand of a command decides its status.
-use Rattle.std.proofs.Common.{◌≡◌, ◌≢◌, ◌≤◌, ◌<◌, ℕ, List, [], ◌∷◌, length, Bool, true, false, Option, None, Some, IfSome, MatchOption, inl, inr, refl, ap, sym, ◌∙◌, subst, arith}
+use Rattle.std.proofs.Common.{◌≡◌, ◌≢◌, ◌≤◌, ◌<◌, ℕ, List, [], ◌∷◌, length, true, Option, None, Some, IfSome, MatchOption, inl, inr, ap, sym, ◌∙◌, subst, arith}
 use Rattle.std.specs.Prelude.{◌⊎◌, IsNone, IsSomeAnd}
 use Rattle.std.specs.FinMap.{get}
 use Rattle.std.proofs.lemmas.Bool.{false≢true}
@@ -10,7 +10,7 @@ use Rattle.nm_top.specs.declared.status.Status.TheVariants.{Done, Usage, Absent,
 use Rattle.nm_top.specs.Commands.{Command, command_of}
 use Rattle.nm_top.specs.Statuses.{is_of_files}
 use Rattle.nm_top.specs.Replies.{Reply, Says, Answers, Owed}
-use Rattle.nm_top.specs.Demands.{Demand, Fetch, fetch_of, refusal_of, Admits, Holds, HoldsIn, IsMissing, IsPastLimit, IsMet, AreMet, FailsAs, missing, too_long, refused, FirstFailsAs}
+use Rattle.nm_top.specs.Demands.{Demand, Fetch, fetch_of, Admits, HoldsIn, IsMissing, IsPastLimit, IsMet, AreMet, FailsAs, missing, too_long, refused, FirstFailsAs}
 use Rattle.nm_top.specs.Answers as answers
 use Rattle.nm_top.specs.Answers.{IsReason, Refuses, FailsToRead, Demanding, IsDone, IsShort, CommandAnswer, Answer, demands_of, Due, Ready}
 use Rattle.nm_outside.specs.Causes.{Rose}

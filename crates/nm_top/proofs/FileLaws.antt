@@ -1,26 +1,22 @@
 -- What a file that is demanded gives, and the replies that follow from it.
-use Rattle.std.proofs.Common.{◌≡◌, ◌≤◌, ℕ, List, [], ◌∷◌, ◌++◌, length, Bool, true, false, Option, None, Some, Ok, Err, MatchOption, refl, ap, sym, ◌∙◌, subst, inl, inr}
-use Rattle.std.specs.Prelude.{◌⊎◌, IsSomeAnd, IfSome}
+use Rattle.std.proofs.Common.{◌≡◌, ◌≤◌, ℕ, List, [], ◌∷◌, ◌++◌, length, true, false, Option, None, Some, Ok, Err, MatchOption, ap, sym, ◌∙◌, subst, inl, inr}
+use Rattle.std.specs.Prelude.{◌⊎◌, IsSomeAnd}
 use Rattle.std.specs.FinMap.{get}
 use Rattle.nm_outside.specs.Files.{Files}
 use Rattle.c_tree.specs.declared.program.Program.{Program}
-use Rattle.schedules.specs.declared.schedule.Turn.{Turn}
 use Rattle.schedules.specs.declared.reader.ScheduleFault.{ScheduleFault}
 use Rattle.schedules.specs.declared.reader.ScheduleFault.TheVariants as faults
 use Rattle.schedules.specs.Texts.{text_turns}
-use Rattle.report.specs.declared.cause.Refusal.{Refusal}
 use Rattle.report.specs.declared.cause.Refusal.TheVariants as refusals
 use Rattle.report.specs.Texts.{refusal_line, absent_line, read_fault_line, too_long_line}
-use Rattle.nm_top.specs.declared.status.Status.{Status}
 use Rattle.nm_top.specs.declared.status.Status.TheVariants.{Absent, ReadFault, TooLong}
 use Rattle.nm_top.specs.declared.stop.Stop.{Stop}
 use Rattle.nm_top.specs.declared.stop.Stop.TheVariants.{Refused, Memory}
-use Rattle.nm_top.specs.Schedules.{IsSchedule, IsFirstBad, BadPlace, schedule_cause}
+use Rattle.nm_top.specs.Schedules.{IsFirstBad, BadPlace, schedule_cause}
 use Rattle.nm_top.specs.Replies.{Reply, reply, Says}
-use Rattle.nm_top.specs.Statuses.{status_of}
 use Rattle.nm_top.specs.Finishing.{finished}
-use Rattle.nm_top.specs.Demands.{Demand, ProgramText, ScheduleText, TraceText, SameProgram, TraceSchedule, Finishes, Matches, Fetch, program_file, trace_file, fetch_of, refusal_of, Admits, Holds, HoldsIn, HasTrace, HasDigest, AreReplayed, IsMissing, IsPastLimit, IsMet}
-use Rattle.nm_top.specs.Answers.{IsReason, Refuses, missing, too_long, refused, FailsToRead, Demanding}
+use Rattle.nm_top.specs.Demands.{Demand, ProgramText, ScheduleText, TraceText, SameProgram, TraceSchedule, Finishes, Matches, Fetch, program_file, trace_file, fetch_of, Admits, Holds, HoldsIn, HasTrace, HasDigest, AreReplayed, IsMissing, IsPastLimit, IsMet}
+use Rattle.nm_top.specs.Answers.{IsReason, missing, too_long, refused, Demanding}
 use Rattle.nm_top.specs.private.Works.{Stops, Nothing, IsUnfetched, IsUnmet}
 use Rattle.sha2.specs.Sha256.{sha256}
 use Rattle.event_list.specs.Turns.{all_reached}

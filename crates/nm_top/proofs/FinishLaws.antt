@@ -1,5 +1,5 @@
 -- The commands that finish a replay: `replay` without a schedule, and `certify`.
-use Rattle.std.proofs.Common.{◌≡◌, ℕ, List, [], ◌∷◌, ◌++◌, length, true, false, Option, None, Some, IfSome, refl, sym, ap, ◌∙◌, subst, inl, inr}
+use Rattle.std.proofs.Common.{◌≡◌, ℕ, List, [], ◌∷◌, true, Option, IfSome, refl, sym, ap, subst, inl, inr}
 use Rattle.std.proofs.lemmas.Option.{IfSome_then}
 use Rattle.nm_outside.specs.Files.{Files}
 use Rattle.nm_base.specs.declared.letter.LetterId.{LetterId}
@@ -7,21 +7,17 @@ use Rattle.c_tree.specs.declared.program.Program.{Program}
 use Rattle.event_list.specs.Turns.{all_reached}
 use Rattle.trace_file.specs.Content.{Content}
 use Rattle.replay_core.specs.Gates.{seen_trace}
-use Rattle.cut_witness.specs.Comparisons.{HasEntries, IsCompared}
-use Rattle.cut_witness.specs.declared.comparisons.Compared.TheVariants.{Differs}
-use Rattle.report.specs.declared.cause.Refusal.{Refusal}
 use Rattle.report.specs.declared.cause.Refusal.TheVariants as refusals
 use Rattle.report.specs.Texts.{stuck_line, refusal_line}
 use Rattle.nm_top.specs.declared.status.Status.TheVariants as statuses
 use Rattle.nm_top.specs.declared.stop.Stop.TheVariants.{Refused}
-use Rattle.nm_top.specs.Commands.{Command, Finish, Certify}
-use Rattle.nm_top.specs.Statuses.{status_of}
+use Rattle.nm_top.specs.Commands.{Finish, Certify}
 use Rattle.nm_top.specs.Replies.{Reply, reply}
 use Rattle.nm_top.specs.Demands.{Demand, Finishes, Matches, AreReplayed, IsMet}
-use Rattle.nm_top.specs.Finishing.{finished, finish_text, entries_of}
+use Rattle.nm_top.specs.Finishing.{finished, finish_text}
 use Rattle.nm_top.specs.Answers.{CommandAnswer, Demanding, IsDone, IsReason}
-use Rattle.nm_top.specs.private.Works.{Work, Whole, Refusing, Short, Broken, Works}
-use Rattle.nm_top.specs.private.Tellings.{IsStuckWork, IsFinishWork, IsCertifyWork, AreCertificates}
+use Rattle.nm_top.specs.private.Works.{Work, Whole, Refusing, Short, Broken}
+use Rattle.nm_top.specs.private.Tellings.{IsStuckWork, IsFinishWork, IsCertifyWork}
 use Rattle.nm_top.proofs.FileLaws.{stops_on, unmet_at_once}
 use Rattle.nm_top.proofs.PairLaws.{behind_pair}
 use Rattle.nm_top.proofs.CarryLaws.{Bears, nothing_short}

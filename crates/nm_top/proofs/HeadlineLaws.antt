@@ -1,21 +1,19 @@
 -- What the commands on a trace say of the run that was recorded.
-use Rattle.std.proofs.Common.{◌≡◌, ◌≢◌, ◌⊎◌, ◌≤◌, ℕ, List, [], ◌∷◌, ◌++◌, length, map, Bool, true, false, Option, None, Some, IfSome, MatchOption, inl, inr, refl, sym, ap, ◌∙◌, subst, arith}
+use Rattle.std.proofs.Common.{◌≡◌, ◌≢◌, ℕ, List, [], ◌∷◌, ◌++◌, length, map, true, Option, None, Some, IfSome, MatchOption, inl, inr, sym, ap, ◌∙◌, subst, arith}
 use Rattle.std.specs.Prelude.{IsSomeAnd, nat_le}
 use Rattle.std.specs.Io.KnownBytes.{Appends}
 use Rattle.std.proofs.lemmas.Bool.{le-leb}
 use Rattle.nm_base.specs.declared.letter.LetterId.{LetterId}
 use Rattle.nm_base.specs.Scripts.{Script}
-use Rattle.nm_outside.specs.Causes.{Rose}
 use Rattle.nm_outside.specs.Files.{Files}
 use Rattle.c_tree.specs.declared.program.Program.{Program}
 use Rattle.c_tree.specs.Play.{script_of}
 use Rattle.c_tree.proofs.Histories.{scripts_are_lawful}
 use Rattle.schedules.specs.declared.schedule.Turn.{Turn}
-use Rattle.event_list.specs.declared.Event.{Event}
 use Rattle.event_list.specs.Events.{count}
 use Rattle.event_list.specs.Laws.{IsRecorded, AreLawful}
 use Rattle.event_list.specs.Traces.{Trace, IsReplay}
-use Rattle.event_list.specs.Turns.{all_reached, finish_of}
+use Rattle.event_list.specs.Turns.{all_reached}
 use Rattle.event_list.proofs.TurnFacts.{run_of_runs, replay_of_replays, empty_replay}
 use Rattle.event_list.proofs.FinishFacts.{finish_replays, finish_reaches}
 use Rattle.event_list.proofs.RunsSound.{runs_sound}
@@ -27,38 +25,15 @@ use Rattle.cut_witness.specs.Laws.{IsFullReplay}
 use Rattle.cut_witness.proofs.LawFacts.{same_entries_of, witness_both, named_once}
 use Rattle.replay_core.specs.Gates.{seen_trace}
 use Rattle.replay_core.proofs.ReplayLaws.{all_from}
-use Rattle.report.specs.Follows.{Follows}
-use Rattle.report.specs.Runs.{blocks}
 use Rattle.report.specs.Texts.{usage_line, turns_line, certificates_line}
 use Rattle.report.proofs.FollowsFacts.{follows, full}
 use Rattle.nm_top.specs.declared.status.Status.{Status}
-use Rattle.nm_top.specs.declared.status.Status.TheVariants.{Done, Usage, Absent, ReadFault, WriteFault, TooLong, WantOfMemory}
+use Rattle.nm_top.specs.declared.status.Status.TheVariants.{Done, Usage}
 use Rattle.nm_top.specs.Commands.{Command, Run, Record, Replay, Finish, Certify, Upgrade, command_of}
 use Rattle.nm_top.specs.Schedules.{IsSchedule, seen_turn}
-use Rattle.nm_top.specs.Demands.{
-  Demand,
-  ProgramText,
-  ScheduleText,
-  TraceText,
-  SameProgram,
-  TraceSchedule,
-  Finishes,
-  Matches,
-  AreReplayed,
-  HoldsIn,
-  schedule_file,
-  refusal_of,
-  IsMet,
-  AreMet,
-  Admits,
-  FailsAs,
-  missing,
-  too_long,
-  refused,
-}
-use Rattle.nm_top.specs.Runs.{run_of_program}
+use Rattle.nm_top.specs.Demands.{Demand, ProgramText, ScheduleText, TraceText, SameProgram, TraceSchedule, Finishes, Matches, HoldsIn, schedule_file, refusal_of, IsMet, AreMet, Admits, FailsAs, missing, too_long, refused}
 use Rattle.nm_top.specs.Finishing.{replayed, finished, replay_text, finish_text, entries_of}
-use Rattle.nm_top.specs.Replies.{Reply, reply, Says, Answers, Owed}
+use Rattle.nm_top.specs.Replies.{Reply, Says, Answers, Owed}
 use Rattle.nm_top.specs.Replays.{ReplayPrints, FinishPrints}
 use Rattle.nm_top.specs.Certifying.{Certifies, AreCertified, CertifyPrints}
 use Rattle.nm_top.specs.Certifying as certifying

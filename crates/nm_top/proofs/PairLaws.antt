@@ -1,7 +1,5 @@
 -- A program and a trace of it, as commands demand them.
-use Rattle.std.proofs.Common.{◌≡◌, ◌≢◌, ℕ, List, [], ◌∷◌, ◌++◌, length, Bool, true, false, Option, None, Some, IfSome, refl, sym, ap, ◌∙◌, subst, inl, inr}
-use Rattle.std.specs.Prelude.{slice_get}
-use Rattle.std.proofs.lemmas.Option.{IfSome_then}
+use Rattle.std.proofs.Common.{◌≡◌, ℕ, List, [], ◌∷◌, ◌++◌, Option, None, Some, IfSome, refl, ◌∙◌, subst, inl, inr}
 use Rattle.sha2.specs.Sha256.{sha256}
 use Rattle.nm_outside.specs.Files.{Files}
 use Rattle.c_tree.specs.declared.program.Program.{Program}
@@ -15,24 +13,7 @@ use Rattle.nm_top.specs.Commands.{Replay}
 use Rattle.nm_top.specs.Programs.{Reads}
 use Rattle.nm_top.specs.Schedules.{IsSchedule}
 use Rattle.nm_top.specs.Replies.{Reply, reply}
-use Rattle.nm_top.specs.Demands.{
-  Demand,
-  ProgramText,
-  ScheduleText,
-  TraceText,
-  SameProgram,
-  TraceSchedule,
-  HoldsIn,
-  HasTrace,
-  HasDigest,
-  AreReplayed,
-  program_file,
-  schedule_file,
-  trace_file,
-  IsMet,
-  AreMet,
-  Admits,
-}
+use Rattle.nm_top.specs.Demands.{Demand, ProgramText, ScheduleText, TraceText, SameProgram, TraceSchedule, HoldsIn, HasTrace, HasDigest, AreReplayed, program_file, schedule_file, trace_file, AreMet, Admits}
 use Rattle.nm_top.specs.Finishing.{replay_text}
 use Rattle.nm_top.specs.Answers.{CommandAnswer, Demanding, Refuses, missing, too_long, refused, IsReason, IsDone, pair_demands}
 use Rattle.nm_top.specs.private.Works.{Stops, Nothing, IsUnmet}

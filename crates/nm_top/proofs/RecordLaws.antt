@@ -1,14 +1,13 @@
 -- The command `record`.
-use Rattle.std.proofs.Common.{◌≡◌, ◌≤◌, ◌+◌, ◌*◌, ℕ, List, [], ◌∷◌, ◌++◌, length, Bool, true, false, Option, None, Some, Ok, Err, Result, IfSome, IsSome, refl, sym, ap, ◌∙◌, subst, inl, inr}
-use Rattle.std.specs.Prelude.{◌⊎◌, IsSomeAnd}
-use Rattle.std.specs.FinMap.{get, insert}
+use Rattle.std.proofs.Common.{◌≡◌, ◌≤◌, ◌+◌, ◌*◌, ℕ, List, [], ◌++◌, length, Bool, true, false, Option, None, Some, Ok, Err, Result, IfSome, IsSome, refl, sym, ap, ◌∙◌, subst, inl, inr}
+use Rattle.std.specs.Prelude.{◌⊎◌}
+use Rattle.std.specs.FinMap.{insert}
 use Rattle.sha2.specs.Sha256.{sha256}
 use Rattle.nm_outside.specs.Causes.{BelongsTo}
 use Rattle.nm_outside.specs.Files.{Files}
 use Rattle.c_tree.specs.declared.program.Program.{Program}
 use Rattle.schedules.specs.declared.schedule.Turn.{Turn}
 use Rattle.schedules.specs.declared.reader.ScheduleFault.{ScheduleFault}
-use Rattle.schedules.specs.Texts.{text_turns}
 use Rattle.c_tree.specs.Play.{script_of}
 use Rattle.trace_file.specs.Bytes.{spelling}
 use Rattle.nm_base.specs.Scripts.{Script}
@@ -25,10 +24,10 @@ use Rattle.nm_top.specs.declared.status.Status.TheVariants as statuses
 use Rattle.nm_top.specs.Commands.{Command, Record}
 use Rattle.nm_top.specs.Programs.{Reads}
 use Rattle.nm_top.specs.Schedules.{IsSchedule}
-use Rattle.nm_top.specs.Replies.{Reply, reply, KeepsOthers}
+use Rattle.nm_top.specs.Replies.{reply, KeepsOthers}
 use Rattle.nm_top.specs.Demands.{ProgramText, ScheduleText, HoldsIn, program_file, schedule_file, Admits}
-use Rattle.nm_top.specs.Recordings.{ToRecord, IsToRecord, RecordFits, recorded_run}
-use Rattle.nm_top.specs.Answers.{CommandAnswer, IsBroken, IsEnough, IsDone, to_record}
+use Rattle.nm_top.specs.Recordings.{ToRecord, IsToRecord, recorded_run}
+use Rattle.nm_top.specs.Answers.{CommandAnswer, IsBroken, IsEnough, to_record}
 use Rattle.nm_top.specs.private.Works.{Work, Whole, Refusing, Short, Broken, Works, Counts, IsWorkOf, Tells, Outside, outside, Carries, is_absence, is_fault, is_broken, work_status}
 use Rattle.nm_top.specs.private.Recorded.{IsRecordWork, HasRecorded, recorded_work}
 use Rattle.nm_top.proofs.FileLaws.{held_more, one_text}

@@ -1,5 +1,5 @@
 -- The commands `run` and `record`, up to what their files hold.
-use Rattle.std.proofs.Common.{◌≡◌, ℕ, List, [], ◌∷◌, ◌++◌, Option, None, Some, IfSome, refl, subst, inl, inr}
+use Rattle.std.proofs.Common.{◌≡◌, ℕ, List, ◌∷◌, ◌++◌, Option, None, Some, IfSome, refl, subst, inl, inr}
 use Rattle.std.proofs.lemmas.Option.{IfSome_then}
 use Rattle.sha2.specs.Sha256.{sha256}
 use Rattle.nm_outside.specs.Files.{Files}
@@ -11,10 +11,10 @@ use Rattle.nm_top.specs.declared.stop.Stop.{Stop}
 use Rattle.nm_top.specs.Commands.{Run}
 use Rattle.nm_top.specs.Programs.{Reads}
 use Rattle.nm_top.specs.Schedules.{IsSchedule}
-use Rattle.nm_top.specs.Replies.{Reply, reply}
+use Rattle.nm_top.specs.Replies.{reply}
 use Rattle.nm_top.specs.Demands.{Demand, ProgramText, ScheduleText, HoldsIn, program_file, schedule_file, IsMet, Admits}
-use Rattle.nm_top.specs.Runs.{run_of_program, run_demands}
-use Rattle.nm_top.specs.Answers.{CommandAnswer, Demanding, IsDone}
+use Rattle.nm_top.specs.Runs.{run_of_program}
+use Rattle.nm_top.specs.Answers.{CommandAnswer, Demanding}
 use Rattle.nm_top.specs.private.Works.{Stops, Nothing}
 use Rattle.nm_top.proofs.FileLaws.{held_more, later_stops, stops_on}
 

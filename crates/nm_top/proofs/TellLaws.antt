@@ -1,5 +1,5 @@
 -- Work that is told to a sink.
-use Rattle.std.proofs.Common.{◌≡◌, ℕ, ◌-◌, List, [], ◌++◌, length, true, false, Option, Some, None, Ok, Err, Result, refl, sym, ap, ◌∙◌, subst, inl, inr}
+use Rattle.std.proofs.Common.{◌≡◌, ℕ, ◌-◌, List, [], ◌++◌, length, true, false, Option, Ok, Err, Result, refl, ap, ◌∙◌, subst, inl, inr}
 use Rattle.std.specs.Prelude.{⊤, slice_index}
 use Rattle.c_tree.specs.declared.program.Program.{Program}
 use Rattle.schedules.specs.declared.schedule.Turn.{Turn}

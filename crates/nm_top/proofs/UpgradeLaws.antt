@@ -1,5 +1,5 @@
 -- The command `upgrade`.
-use Rattle.std.proofs.Common.{◌≡◌, ◌≤◌, ◌+◌, ℕ, List, [], ◌∷◌, ◌++◌, length, arith, length-append, Err, Result, Bool, true, false, Option, None, Some, Ok, IfSome, IsSome, refl, sym, ap, ◌∙◌, subst, inl, inr}
+use Rattle.std.proofs.Common.{◌≡◌, ◌≤◌, ◌+◌, ℕ, List, [], ◌++◌, length, arith, length-append, Err, Result, Bool, false, Option, None, Some, Ok, IfSome, IsSome, refl, sym, ap, ◌∙◌, subst, inl, inr}
 use Rattle.std.specs.FinMap.{insert}
 use Rattle.sha2.specs.Sha256.{sha256}
 use Rattle.nm_outside.specs.declared.cabinet.BeginFault.{BeginFault}
@@ -17,7 +17,7 @@ use Rattle.trace_file.specs.Outcomes.{IsSpelling}
 use Rattle.nm_top.specs.declared.status.Status.{Status}
 use Rattle.nm_top.specs.declared.status.Status.TheVariants as statuses
 use Rattle.nm_top.specs.Commands.{Command, Upgrade}
-use Rattle.nm_top.specs.Replies.{Reply, reply, KeepsOthers}
+use Rattle.nm_top.specs.Replies.{reply, KeepsOthers}
 use Rattle.nm_top.specs.Demands.{TraceText, HasTrace, trace_file, Admits}
 use Rattle.nm_top.specs.Upgrades.{upgraded}
 use Rattle.nm_top.specs.Answers.{CommandAnswer, IsBroken, IsEnough}

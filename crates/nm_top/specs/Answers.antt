@@ -1,7 +1,6 @@
 -- The answer to the words of the command line.
 use Rattle.std.specs.Prelude.{◌≡◌, ◌≢◌, ◌⊎◌, ℕ, List, [], ◌∷◌, ◌++◌, MatchOption, IsSomeAnd, Option, Some, None, false, slice_index}
 use Rattle.std.specs.Option.{option_and_then}
-use Rattle.sha2.specs.Sha256.{sha256}
 use Rattle.nm_base.specs.declared.letter.LetterId.{LetterId}
 use Rattle.nm_outside.specs.Files.{Files}
 use Rattle.c_tree.specs.declared.program.Program.{Program}

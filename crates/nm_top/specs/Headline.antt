@@ -24,7 +24,7 @@ use Rattle.report.specs.Runs.{blocks}
 use Rattle.report.specs.Follows.{Follows}
 use Rattle.nm_top.specs.declared.status.Status.{Status}
 use Rattle.nm_top.specs.declared.status.Status.TheVariants.{Done}
-use Rattle.nm_top.specs.Commands.{Command, Run, Record, Replay, Finish, Certify, Upgrade, command_of}
+use Rattle.nm_top.specs.Commands.{Command, Replay, Finish, Certify, command_of}
 use Rattle.nm_top.specs.Schedules.{IsSchedule}
 use Rattle.nm_top.specs.Demands.{AreReplayed, HoldsIn, schedule_file}
 use Rattle.nm_top.specs.Runs.{run_of_program}

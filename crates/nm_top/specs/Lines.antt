@@ -1,5 +1,5 @@
 -- What may be printed with each status, also where the files aren't told.
-use Rattle.std.specs.Prelude.{◌≡◌, ◌⊎◌, ℕ, List, [], Option, Some, None, ⊤}
+use Rattle.std.specs.Prelude.{◌≡◌, ◌⊎◌, ℕ, List, [], Option, Some, ⊤}
 use Rattle.std.specs.Io.KnownBytes.{Appends}
 use Rattle.report.specs.declared.cause.Refusal.{Refusal}
 use Rattle.report.specs.Texts.{refusal_line, usage_line, stopped_line}

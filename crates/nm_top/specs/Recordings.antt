@@ -1,10 +1,9 @@
 -- The command `record`.
-use Rattle.std.specs.Prelude.{◌≡◌, ◌⊎◌, ℕ, ◌+◌, ◌*◌, ◌<◌, ◌≤◌, List, ◌++◌, length, take, Some}
+use Rattle.std.specs.Prelude.{◌≡◌, ◌⊎◌, ℕ, ◌+◌, ◌*◌, ◌<◌, ◌≤◌, List, ◌++◌, length, take}
 use Rattle.std.specs.FinMap.{insert}
 use Rattle.sha2.specs.Sha256.{sha256}
 use Rattle.nm_outside.specs.Files.{Files}
 use Rattle.c_tree.specs.declared.program.Program.{Program}
-use Rattle.c_tree.specs.Play.{script_of}
 use Rattle.schedules.specs.declared.schedule.Turn.{Turn}
 use Rattle.event_list.specs.declared.Event.{Event}
 use Rattle.trace_file.specs.Content.{Content}

@@ -1,5 +1,5 @@
 -- The statuses, with their exit codes and with the lines of refusals.
-use Rattle.std.specs.Prelude.{◌≡◌, ℕ, List, Bool, true, false, ⊤}
+use Rattle.std.specs.Prelude.{ℕ, List, Bool, true, false, ⊤}
 use Rattle.report.specs.declared.cause.Refusal.{Refusal}
 use Rattle.report.specs.declared.cause.Refusal.TheVariants as refusals
 use Rattle.nm_top.specs.declared.status.Status.{Status}

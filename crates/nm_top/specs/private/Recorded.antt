@@ -11,7 +11,7 @@ use Rattle.report.specs.Texts.{trace_line, stopped_line}
 use Rattle.report.specs.Runs.{blocks}
 use Rattle.nm_top.specs.declared.status.Status.{Status}
 use Rattle.nm_top.specs.Recordings.{ToRecord, IsRecordedAs, recorded_run}
-use Rattle.nm_top.specs.private.Works.{Work, Whole, Refusing, Short, Broken, Outside, Tells, is_broken}
+use Rattle.nm_top.specs.private.Works.{Work, Whole, Short, Broken, Outside, Tells, is_broken}
 
 -- all turns were made, and their trace was written
 pub record RecordsAll (w : ToRecord) (p : Program) (digest : List ℕ) (turns : List Turn) (old new : Option Files)

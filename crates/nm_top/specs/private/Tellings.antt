@@ -16,7 +16,7 @@ use Rattle.nm_top.specs.declared.stop.Stop.{Stop}
 use Rattle.nm_top.specs.declared.stop.Stop.TheVariants.{Refused}
 use Rattle.nm_top.specs.Finishing.{finished, finish_text, entries_of}
 use Rattle.nm_top.specs.Certifying.{AreCertified}
-use Rattle.nm_top.specs.private.Works.{Work, Whole, Refusing, Short, Broken, Tells}
+use Rattle.nm_top.specs.private.Works.{Work, Whole, Refusing, Short, Tells}
 
 -- Work of which this holds was told.
 pub record Told (P : Work → Type 0) (before after : Option (List ℕ)) (was now : ℕ) (status : Status) : Type 0 where

@@ -1,4 +1,4 @@
-use Rattle.std.proofs.Common.{refl, [], ◌∷◌}
+use Rattle.std.proofs.Common.{[], ◌∷◌}
 use Rattle.nm_top.specs.Commands.{Certify}
 use Rattle.nm_top.specs.Demands.{Finishes, Matches, IsFetched}
 use Rattle.nm_top.specs.Answers.{pair_demands}

@@ -1,7 +1,6 @@
 use Rattle.std.proofs.Common.{refl}
 use Rattle.std.proofs.lemmas.Option.{IfSome_then}
-use Rattle.nm_top.specs.Demands.{TraceText, trace_file}
-use Rattle.trace_file.specs.Outcomes.{IsSpelling}
+use Rattle.nm_top.specs.Demands.{TraceText}
 use Rattle.nm_top.proofs.FileLaws.{unfetched_stops, unmet_stops, held_read}
 use Rattle.nm_top.proofs.fetch.trace_in.Goals as goal
 

@@ -1,4 +1,4 @@
-use Rattle.std.proofs.Common.{[], refl, sym, ap, ◌∙◌, subst}
+use Rattle.std.proofs.Common.{[], subst}
 use Rattle.c_tree.specs.Play.{script_of}
 use Rattle.replay_core.specs.Gates.{seen_trace}
 use Rattle.replay_core.specs.Replaying.{HasFailed}

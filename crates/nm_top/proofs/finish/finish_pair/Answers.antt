@@ -1,5 +1,3 @@
-use Rattle.std.proofs.Common.{refl, inr}
-use Rattle.nm_top.specs.private.Works.{Short}
 use Rattle.nm_top.proofs.TellLaws.{finish_nothing}
 use Rattle.nm_top.proofs.finish.finish_pair.Goals as goal
 

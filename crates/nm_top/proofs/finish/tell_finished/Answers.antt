@@ -1,4 +1,3 @@
-use Rattle.std.proofs.Common.{refl}
 use Rattle.report.specs.Texts.{turns_line}
 use Rattle.nm_top.specs.Finishing.{finished}
 use Rattle.nm_top.proofs.TellLaws.{at_world, finish_ok, finish_err}

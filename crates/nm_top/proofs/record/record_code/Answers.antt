@@ -1,9 +1,7 @@
-use Rattle.std.proofs.Common.{length, map, Err, refl, sym, ap, ◌∙◌, subst}
+use Rattle.std.proofs.Common.{length, Err, refl, ap, ◌∙◌}
 use Rattle.c_tree.specs.Play.{script_of}
 use Rattle.c_tree.proofs.Histories.{scripts_are_lawful}
 use Rattle.stack_code.specs.View.{seen_code}
-use Rattle.processes.specs.Seats.{process_in}
-use Rattle.world.proofs.Places.{map_length}
 use Rattle.recorder.specs.Outcomes.{run_of_first, turns_made}
 use Rattle.nm_top.proofs.StartLaws.{begins, runs_from}
 use Rattle.nm_top.proofs.RecordLaws.{none_recorded, front_recorded, made_recorded, still_memory, failed_write, sure_write, cut_for}

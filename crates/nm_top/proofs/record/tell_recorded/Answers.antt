@@ -1,4 +1,4 @@
-use Rattle.std.proofs.Common.{length, ◌++◌, subst, sym, refl, None, Some, Option, ℕ}
+use Rattle.std.proofs.Common.{length, ◌++◌, subst, sym, refl, Option, ℕ}
 use Rattle.report.specs.Runs.{blocks}
 use Rattle.report.specs.Texts.{trace_line, stopped_line}
 use Rattle.nm_top.specs.declared.status.Status.TheVariants.{Done, WantOfMemory, WriteFault}

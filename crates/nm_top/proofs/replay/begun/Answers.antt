@@ -1,4 +1,4 @@
-use Rattle.std.proofs.Common.{length, sym, ap, ◌∙◌, subst}
+use Rattle.std.proofs.Common.{subst}
 use Rattle.c_tree.specs.Play.{script_of}
 use Rattle.stack_code.specs.View.{seen_code}
 use Rattle.nm_top.specs.private.Begun.{AreBegun}

@@ -1,5 +1,4 @@
-use Rattle.std.proofs.Common.{length, subst, refl}
-use Rattle.report.specs.Runs.{blocks}
+use Rattle.std.proofs.Common.{subst}
 use Rattle.report.specs.Texts.{turns_line}
 use Rattle.report.specs.Printing.{Prints}
 use Rattle.nm_top.specs.Finishing.{replayed, replay_text}

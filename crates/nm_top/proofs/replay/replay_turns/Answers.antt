@@ -1,4 +1,4 @@
-use Rattle.std.proofs.Common.{length, arith, sym, ap, subst}
+use Rattle.std.proofs.Common.{length, arith}
 use Rattle.nm_top.proofs.ReplayLaws.{replay_first, replay_next, replay_all, of_turn}
 use Rattle.nm_top.proofs.replay.replay_turns.Goals as goal
 

@@ -1,4 +1,4 @@
-use Rattle.std.proofs.Common.{length, Err, Ok, ap, ◌∙◌, refl, arith}
+use Rattle.std.proofs.Common.{length, Err, ap, ◌∙◌, refl, arith}
 use Rattle.report.specs.Texts.{upgraded_line}
 use Rattle.nm_top.specs.private.Works.{Whole}
 use Rattle.nm_top.proofs.UpgradeLaws.{none_upgraded, wrote_upgraded, same_line, few_entries, still_begin}
