@@ -1,3 +1,5 @@
+pub mod BackLaws
 pub mod GateLaws
 pub mod ReplayLaws
 pub mod RoundLaws
+pub mod StepLaws

@@ -4,10 +4,12 @@
 //! can go on.
 #![tactic(auto)]
 
+mod back;
 mod finish;
 mod gate;
 mod replay;
 mod round;
+mod step;
 #[cfg(test)]
 mod tests;
 
