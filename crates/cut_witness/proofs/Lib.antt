@@ -6,5 +6,7 @@ pub mod LawFacts
 pub mod ListingFacts
 pub mod LookupFacts
 pub mod MakingFacts
+pub mod PostFacts
 pub mod QueryFacts
+pub mod QuietFacts
 pub mod WorkedFacts

@@ -1,4 +1,6 @@
 pub mod Findings
 pub mod Lookups
+pub mod Posts
 pub mod Queries
+pub mod Quiet
 pub mod Steps

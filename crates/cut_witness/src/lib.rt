@@ -11,7 +11,9 @@ pub mod laws;
 mod listing;
 mod lookups;
 mod making;
+mod posts;
 mod query;
+mod quiet;
 #[cfg(test)]
 mod tests;
 

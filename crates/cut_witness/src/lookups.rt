@@ -110,7 +110,7 @@ fn add_key(noted: &mut IndexSet<NoteKey>, key: NoteKey) -> Result<(), WantOfMemo
     }
 }
 
-fn add_letter(lost: &mut IndexSet<LetterId>, id: LetterId) -> Result<(), WantOfMemory>
+pub fn add_letter(lost: &mut IndexSet<LetterId>, id: LetterId) -> Result<(), WantOfMemory>
     ensures { OnOk result ((q : LetterId) → contains same_name lost.new q
         ≡ (if same_name id q then true else contains same_name lost.old q)) }
 {
