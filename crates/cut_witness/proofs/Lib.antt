@@ -1,6 +1,7 @@
 pub mod ComparingFacts
 pub mod EarlierFacts
 pub mod EntryFacts
+pub mod HeldFacts
 pub mod KeptFacts
 pub mod LawFacts
 pub mod ListingFacts

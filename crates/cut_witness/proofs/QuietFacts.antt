@@ -23,14 +23,16 @@ use Rattle.causal_stop.proofs.PlaceFacts.{at_place, in_place, taken_more}
 use Rattle.cut_witness.specs.declared.posts.Post.{Post}
 use Rattle.cut_witness.specs.declared.quiet.Lane.{Lane}
 use Rattle.cut_witness.specs.declared.quiet.Taken.{Taken}
+use Rattle.cut_witness.specs.private.Lookups.{with_name}
 use Rattle.cut_witness.specs.private.Posts.{IsPost, ArePosts}
 use Rattle.cut_witness.specs.private.Queries.{is_naming}
-use Rattle.cut_witness.specs.private.Quiet.{AreQuiet, AreLast, same_lane, lane_of, IsTakenOn, AreTaken, if_before, behind, IsLow}
+use Rattle.cut_witness.specs.private.Quiet.{AreQuiet, AreLast, same_lane, lane_of, IsTakenOn, AreTaken, if_before, behind, IsLow, TellsQuiet}
 use Rattle.cut_witness.proofs.PostFacts.{merged_same, merged_other, left_later}
 
 -- the set of quiet letters
-pub quiet_more : {M : ℕ} {E : List Event} (old new : LetterId → Bool) (id : LetterId) → ((q : LetterId) → new q ≡ cond (same_name id q) true (old q)) → (IsLoggedName M E id → ⊥) → AreQuiet M E old → AreQuiet M E new
-quiet_more {M = M} {E = E} old new id is n h = record { each = λ q t. by q (same_name id q) refl (sym (is q) ∙ t) }
+pub quiet_more : {M : ℕ} {E : List Event} (old new : LetterId → Bool) (found : Option LetterId) → ((q : LetterId) → new q ≡ with_name found q (old q)) → TellsQuiet M E found → AreQuiet M E old → AreQuiet M E new
+quiet_more old new None is n h = record { each = λ q t. h.each q (sym (is q) ∙ t) }
+quiet_more {M = M} {E = E} old new (Some id) is n h = record { each = λ q t. by q (same_name id q) refl (sym (is q) ∙ t) }
   where
     by : (q : LetterId) (b : Bool) → same_name id q ≡ b → cond b true (old q) ≡ true → IsLoggedName M E q → ⊥
     by q true s t = subst (λ z. IsLoggedName M E z → ⊥) (name_from id q s) n

@@ -1,4 +1,5 @@
 pub mod Findings
+pub mod Held
 pub mod Lookups
 pub mod Posts
 pub mod Queries

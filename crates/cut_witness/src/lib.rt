@@ -6,6 +6,7 @@ mod certificates;
 mod comparing;
 mod comparisons;
 mod earlier;
+mod held;
 mod kept;
 pub mod laws;
 mod listing;

@@ -1,6 +1,6 @@
 //! What happened before the send of each letter.
 
-ghost use Rattle.std.specs.Prelude.{◌≡◌, ℕ, ◌<◌, IfOk, OnOk};
+ghost use Rattle.std.specs.Prelude.{◌≡◌, ℕ, ◌<◌, Some, IfOk, OnOk, if◌then◌else◌};
 ghost use Rattle.indexmap.specs.IndexMap.{get};
 ghost use Rattle.nm_base.specs.declared.letter.LetterId.{LetterId};
 ghost use Rattle.nm_base.specs.Message.{same_name};

@@ -1,6 +1,6 @@
 //! Letters that a few walks through a list tell not to be logged: all but few of those that don't race.
 
-ghost use Rattle.std.specs.Prelude.{◌≡◌, ◌<◌, ℕ, List, Some, true, IfOk, OnOk, IsTrue, Contains, length, slice_get, take, if◌then◌else◌};
+ghost use Rattle.std.specs.Prelude.{◌≡◌, ◌<◌, ℕ, List, Some, true, IfOk, OnOk, IfSome, Contains, length, slice_get, take, if◌then◌else◌};
 ghost use Rattle.indexmap.specs.IndexMap.{get};
 ghost use Rattle.indexmap.specs.IndexSet.{contains};
 ghost use Rattle.nm_base.specs.Message.{same_name};
@@ -13,8 +13,9 @@ ghost use Rattle.cut_witness.specs.private.Queries.{is_naming};
 ghost use Rattle.cut_witness.specs.private.Quiet.{AreQuiet, AreLast, AreTaken, TellsQuiet, IsLow, same_lane, lane_of as lane_name, if_before as number_before, behind as number_behind};
 
 use crate::earlier::name_at;
+use crate::held::add_held;
 use crate::kept::taken_at;
-use crate::lookups::add_letter;
+use crate::lookups::add_found;
 use crate::posts::{Post, post_of, posts_of, taken_post};
 use crate::query::names;
 use event_list::{Event, EventList};
@@ -53,25 +54,16 @@ pub fn quiet_of(
     let mut quiet = IndexSet::new(alloc);
     for i in 0..events.len() {
         let e = events.at(i);
-        add_quiet(&mut quiet, quiet_taken(mask, &last, &lanes, &posts, e))?;
+        add_found(&mut quiet, quiet_taken(mask, &last, &lanes, &posts, e))?;
         last.merge(e.proc, &named_by(e));
         add_taken(&mut lanes, &posts, e)?;
     }
     for j in 0..events.len() {
         let sent = events.at(j);
-        add_quiet(&mut quiet, quiet_sent(mask, &last, &lanes, &posts, sent))?;
+        add_found(&mut quiet, quiet_sent(mask, &last, &lanes, &posts, sent))?;
     }
+    add_held(alloc, events, mask, &posts, &mut quiet)?;
     Ok(quiet)
-}
-
-fn add_quiet(quiet: &mut IndexSet<LetterId>, found: Option<LetterId>) -> Result<(), WantOfMemory>
-    ensures { OnOk result ((M : ℕ) (E : List Event) → AreQuiet M E (contains same_name quiet.old) → TellsQuiet M E found
-        → AreQuiet M E (contains same_name quiet.new)) }
-{
-    match found {
-        Some(id) => add_letter(quiet, id),
-        None => Ok(()),
-    }
 }
 
 /// The letter that the event accepts, if the receives before it tell that it isn't logged.
@@ -162,7 +154,7 @@ fn number_before(number: u32, taken: Option<Taken>) -> u32
     }
 }
 
-fn lane_of(id: LetterId, post: &Post) -> Lane
+pub fn lane_of(id: LetterId, post: &Post) -> Lane
     ensures { result ≡ lane_name id post.now }
 {
     Lane {
@@ -211,7 +203,8 @@ fn add_taken(
         letter: id.number,
         event: e.number,
     };
-    put_taken(lanes, lane_of(id, &post), taken)
+    put_taken(lanes, lane_of(id, &post), taken)?;
+    Ok(())
 }
 
 fn put_taken(
