@@ -10,4 +10,5 @@ pub mod MakingFacts
 pub mod PostFacts
 pub mod QueryFacts
 pub mod QuietFacts
+pub mod RoundFacts
 pub mod WorkedFacts

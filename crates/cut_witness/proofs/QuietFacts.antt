@@ -1,6 +1,6 @@
 -- Letters that are told not to be logged.
 use Rattle.std.proofs.Common.{◌≡◌, ℕ, ◌+◌, ◌<◌, ◌≤◌, max, Bool, true, false, cond, List, [], ◌∷◌, ◌++◌, length, take, drop, Option, Some, None, refl, sym, ap, ◌∙◌, subst, inl, inr, arith}
-use Rattle.std.specs.Prelude.{Contains, slice_get, ◌==◌, ◌&&◌, nat_lt}
+use Rattle.std.specs.Prelude.{Contains, IfSome, slice_get, ◌==◌, ◌&&◌, nat_lt}
 use Rattle.std.proofs.lemmas.Bool.{cases_eq, cases_lt, eq-eqb, eqb-true, ltb-true, and_parts, false≢true}
 use Rattle.std.proofs.lemmas.List.{take_all}
 use Rattle.std.proofs.lemmas.List.Elements.{Contains-append_cases, Contains-push_cases}
@@ -168,3 +168,8 @@ before_own {E = E} g i e at id t p is to q could =
         | inr r ↦ absurd (omega (arith, early, left_later g i e at q r same))
       ]
     ]
+
+-- what is told of the letter that is given
+pub low_tells : {M : ℕ} {E : List Event} (id : LetterId) {P : Type 0} (r : Option LetterId) → IfSome r (λ f. (f ≡ id) × P) → (P → IsLoggedName M E id → ⊥) → TellsQuiet M E r
+low_tells id None h n = h
+low_tells {M = M} {E = E} id (Some f) h n = λ l. n h.1 (subst (IsLoggedName M E) h.0 l)

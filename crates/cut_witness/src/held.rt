@@ -67,11 +67,10 @@ fn quiet_behind(
 {
     let id = name_at(e)?;
     let post = post_of(posts, id)?;
-    if is_behind(mask, held, id, &post) {
-        Some(id)
-    } else {
-        None
+    if !is_behind(mask, held, id, &post) {
+        return None;
     }
+    Some(id)
 }
 
 fn is_behind(mask: u32, held: &IndexMap<Lane, u32>, id: LetterId, post: &Post) -> bool

@@ -1,6 +1,6 @@
 //! Letters that a few walks through a list tell not to be logged: all but few of those that don't race.
 
-ghost use Rattle.std.specs.Prelude.{◌≡◌, ◌<◌, ℕ, List, Some, true, IfOk, OnOk, IfSome, Contains, length, slice_get, take, if◌then◌else◌};
+ghost use Rattle.std.specs.Prelude.{◌≡◌, ◌==◌, ◌<◌, ◌≤◌, max, ℕ, List, Some, true, IfOk, OnOk, IfSome, Contains, length, slice_get, take, if◌then◌else◌};
 ghost use Rattle.indexmap.specs.IndexMap.{get};
 ghost use Rattle.indexmap.specs.IndexSet.{contains};
 ghost use Rattle.nm_base.specs.Message.{same_name};
@@ -79,10 +79,16 @@ fn quiet_taken(
 {
     let id = taken_at(e)?;
     let post = post_of(posts, id)?;
-    if post.dest.no != e.proc.no {
+    if !goes_to(&post, e.proc) {
         return None;
     }
     low_letter(mask, last, lanes, id, &post)
+}
+
+fn goes_to(post: &Post, p: ProcNo) -> bool
+    ensures { result ≡ (post.now.dest.no == p.no) }
+{
+    post.dest.no == p.no
 }
 
 /// The letter that the event sends, if all receives tell that it isn't logged.
@@ -111,11 +117,10 @@ fn low_letter(
 ) -> Option<LetterId>
     ensures { IfSome result (λ found. (found ≡ id) × IsLow mask (part_of last.now) (get same_lane lanes.now) id post.now) }
 {
-    if is_low(mask, last, lanes, id, post) {
-        Some(id)
-    } else {
-        None
+    if !is_low(mask, last, lanes, id, post) {
+        return None;
     }
+    Some(id)
 }
 
 fn is_low(
@@ -130,7 +135,19 @@ fn is_low(
     if post.dest.no >= 32 || post.chan >= 32 {
         return false;
     }
-    let limit = post.past.parts[post.dest.no as usize].max(behind(mask, lanes, id, post));
+    let behind = behind(mask, lanes, id, post);
+    is_at_most(last, post, behind)
+}
+
+/// Whether the process's last receive that names the channel comes no later than the letter's past, or than the event
+/// of this number.
+fn is_at_most(last: &Clocks, post: &Post, number: u32) -> bool
+    requires process { post.now.dest.no < 32 }
+    requires channel { post.now.chan < 32 }
+    ensures { result ≡ true → part_of last.now post.now.dest.no post.now.chan
+        ≤ max (part post.now.past post.now.dest.no) number }
+{
+    let limit = post.past.parts[post.dest.no as usize].max(number);
     last.stamp(post.dest).parts[post.chan as usize] <= limit
 }
 
