@@ -49,21 +49,58 @@ pub fn quiet_of(
     ensures { IfOk result (λ quiet. AreQuiet mask events.now.events (contains same_name quiet)) }
 {
     let posts = posts_of(alloc, events)?;
-    let mut last = Clocks::new(32);
-    let mut lanes = IndexMap::new(alloc);
     let mut quiet = IndexSet::new(alloc);
-    for i in 0..events.len() {
-        let e = events.at(i);
-        add_found(&mut quiet, quiet_taken(mask, &last, &lanes, &posts, e))?;
-        last.merge(e.proc, &named_by(e));
-        add_taken(&mut lanes, &posts, e)?;
-    }
-    for j in 0..events.len() {
-        let sent = events.at(j);
-        add_found(&mut quiet, quiet_sent(mask, &last, &lanes, &posts, sent))?;
-    }
+    add_low(alloc, events, mask, &posts, &mut quiet)?;
     add_held(alloc, events, mask, &posts, &mut quiet)?;
     Ok(quiet)
+}
+
+/// Adds the letters that no receive comes late enough to race with.
+fn add_low(
+    alloc: Global,
+    events: &EventList,
+    mask: u32,
+    posts: &IndexMap<LetterId, Post>,
+    quiet: &mut IndexSet<LetterId>,
+) -> Result<(), WantOfMemory>
+    requires posts { ArePosts events.now.events (get same_name posts.now) }
+    requires sound { Sound mask events.now.events }
+    ensures { OnOk result (AreQuiet mask events.now.events (contains same_name quiet.old)
+        → AreQuiet mask events.now.events (contains same_name quiet.new)) }
+{
+    let mut last = Clocks::new(32);
+    let mut lanes = IndexMap::new(alloc);
+    for i in 0..events.len() {
+        let e = events.at(i);
+        add_found(quiet, quiet_taken(mask, &last, &lanes, posts, e))?;
+        last.merge(e.proc, &named_by(e));
+        add_taken(&mut lanes, posts, e)?;
+    }
+    add_low_sent(events, mask, posts, &last, &lanes, quiet)?;
+    Ok(())
+}
+
+/// Adds the letters with which no receive at all races.
+fn add_low_sent(
+    events: &EventList,
+    mask: u32,
+    posts: &IndexMap<LetterId, Post>,
+    last: &Clocks,
+    lanes: &IndexMap<Lane, Taken>,
+    quiet: &mut IndexSet<LetterId>,
+) -> Result<(), WantOfMemory>
+    requires posts { ArePosts events.now.events (get same_name posts.now) }
+    requires sound { Sound mask events.now.events }
+    requires last { AreLast events.now.events (part_of last.now) }
+    requires taken { AreTaken events.now.events (get same_lane lanes.now) }
+    ensures { OnOk result (AreQuiet mask events.now.events (contains same_name quiet.old)
+        → AreQuiet mask events.now.events (contains same_name quiet.new)) }
+{
+    for i in 0..events.len() {
+        let e = events.at(i);
+        add_found(quiet, quiet_sent(mask, last, lanes, posts, e))?;
+    }
+    Ok(())
 }
 
 /// The letter that the event accepts, if the receives before it tell that it isn't logged.

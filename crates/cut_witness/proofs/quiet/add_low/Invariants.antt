@@ -4,14 +4,11 @@ use Rattle.indexmap.specs.IndexSet.{contains}
 use Rattle.nm_base.specs.Message.{same_name}
 use Rattle.vector_clocks.specs.Parts.{part_of}
 use Rattle.cut_witness.specs.private.Quiet.{AreQuiet, AreLast, AreTaken, same_lane}
-use Rattle.cut_witness.proofs.quiet.quiet_of.Given as goal
+use Rattle.cut_witness.proofs.quiet.add_low.Given as goal
 
 abbrev pub invariant-loop-i : goal.invariant-loop-i
 invariant-loop-i l = record {
   last : AreLast (take l.i l.events.events) (part_of l.last);
   taken : AreTaken l.events.events (get same_lane l.lanes);
-  quiet : AreQuiet l.mask l.events.events (contains same_name l.quiet);
+  quiet : AreQuiet l.mask l.events.events (contains same_name l.quiet.old) → AreQuiet l.mask l.events.events (contains same_name l.quiet);
 }
-
-abbrev pub invariant-loop-j : goal.invariant-loop-j
-invariant-loop-j l = AreQuiet l.mask l.events.events (contains same_name l.quiet)
