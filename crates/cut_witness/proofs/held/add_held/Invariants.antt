@@ -8,5 +8,5 @@ use Rattle.cut_witness.proofs.held.add_held.Given as goal
 abbrev pub invariant-loop-i : goal.invariant-loop-i
 invariant-loop-i l = record {
   held : AreHeld l.events.events (get same_lane l.held);
-  quiet : AreQuiet l.mask l.events.events (contains same_name l.quiet.old) → AreQuiet l.mask l.events.events (contains same_name l.quiet);
+  quiet : AreQuiet l.mask l.events.events (contains same_name l.fn.quiet) → AreQuiet l.mask l.events.events (contains same_name l.quiet);
 }

@@ -10,5 +10,5 @@ abbrev pub invariant-loop-i : goal.invariant-loop-i
 invariant-loop-i l = record {
   last : AreLast (take l.i l.events.events) (part_of l.last);
   taken : AreTaken l.events.events (get same_lane l.lanes);
-  quiet : AreQuiet l.mask l.events.events (contains same_name l.quiet.old) → AreQuiet l.mask l.events.events (contains same_name l.quiet);
+  quiet : AreQuiet l.mask l.events.events (contains same_name l.fn.quiet) → AreQuiet l.mask l.events.events (contains same_name l.quiet);
 }

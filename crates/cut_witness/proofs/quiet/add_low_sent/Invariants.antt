@@ -4,4 +4,4 @@ use Rattle.cut_witness.specs.private.Quiet.{AreQuiet}
 use Rattle.cut_witness.proofs.quiet.add_low_sent.Given as goal
 
 abbrev pub invariant-loop-i : goal.invariant-loop-i
-invariant-loop-i l = AreQuiet l.mask l.events.events (contains same_name l.quiet.old) → AreQuiet l.mask l.events.events (contains same_name l.quiet)
+invariant-loop-i l = AreQuiet l.mask l.events.events (contains same_name l.fn.quiet) → AreQuiet l.mask l.events.events (contains same_name l.quiet)
