@@ -39,10 +39,12 @@ has_more (Some id) q had h = by (same_name id q)
     by false = h
 
 pub received_more : (E : List Event) (i : ℕ) (e : Event) → slice_get E i ≡ Some e → (old new : LetterId → Bool) (o : Option LetterId) → o ≡ taken_of e → ((q : LetterId) → new q ≡ with_name o q (old q)) → AreReceived (take i E) old → AreReceived (take (i + 1) E) new
-received_more E i e at old new o is adds h = record { each = λ b id hb t. elim (Contains-push_cases (take i E) e b (subst (λ zs. Contains zs b) (taken_more E i e at) hb)) [
-  | inl c ↦ adds id ∙ has_more o id (old id) (h.each b id c t)
-  | inr s ↦ adds id ∙ ap (λ k. with_name k id (old id)) (is ∙ ap taken_of s ∙ t) ∙ ap (λ b. cond b true (old id)) (same_name_at id id refl)
-] }
+received_more E i e at old new o is adds h = record {
+  each = λ b id hb t. elim (Contains-push_cases (take i E) e b (subst (λ zs. Contains zs b) (taken_more E i e at) hb)) [
+    | inl c ↦ adds id ∙ has_more o id (old id) (h.each b id c t)
+    | inr s ↦ adds id ∙ ap (λ k. with_name k id (old id)) (is ∙ ap taken_of s ∙ t) ∙ ap (λ b. cond b true (old id)) (same_name_at id id refl)
+  ];
+}
 
 pub untaken : (E : List Event) (received : LetterId → Bool) (id : LetterId) → AreReceived E received → received id ≡ false → IsTaken E id → ⊥
 untaken E received id h n t = false≢true (sym n ∙ h.each t.0 id t.2.in_list (ap taken_in t.2.kind))

@@ -114,10 +114,12 @@ module _ {M : ℕ} {E : List Event} (g : Sound M E) (i : ℕ) (e : Event) (at : 
         ]
 
     pub knows_more : Knows E (drop (i + 1) E) new
-    knows_more = record { each = λ x a hx ha l. elim (cases_eq a.proc.no e.proc.no) [
-      | inl same ↦ in_process x a hx ha same l
-      | inr other ↦
-          let n = second a.proc.no x.proc.no ∙ merged_other mid e.proc.no (part own) a.proc.no x.proc.no other in
-          let m = first a.proc.no x.proc.no ∙ merged_other clock e.proc.no (part past) a.proc.no x.proc.no other in
-          k.each x a hx (left_before a ha) (omega (arith, l, n, m))
-    ] }
+    knows_more = record {
+      each = λ x a hx ha l. elim (cases_eq a.proc.no e.proc.no) [
+        | inl same ↦ in_process x a hx ha same l
+        | inr other ↦
+            let n = second a.proc.no x.proc.no ∙ merged_other mid e.proc.no (part own) a.proc.no x.proc.no other in
+            let m = first a.proc.no x.proc.no ∙ merged_other clock e.proc.no (part past) a.proc.no x.proc.no other in
+            k.each x a hx (left_before a ha) (omega (arith, l, n, m))
+      ];
+    }

@@ -50,15 +50,17 @@ last_all E i n last h = subst (λ zs. AreLast zs last) (take_all i E n) h
 
 pub last_more : (E : List Event) (i : ℕ) (e : Event) → slice_get E i ≡ Some e → (old new : ℕ → ℕ → ℕ) (row : Stamp) → ((chan : ℕ) → chan < 32 → part row chan ≡ cond (is_naming e.kind chan) e.number 0)
     → ((r q : ℕ) → new r q ≡ merged_part old e.proc.no (part row) r q) → AreLast (take i E) old → AreLast (take (i + 1) E) new
-last_more E i e at old new row named is h = record { each = λ q chan hq l n. elim (Contains-push_cases (take i E) e q (subst (λ zs. Contains zs q) (taken_more E i e at) hq)) [
-  | inl o ↦ elim (cases_eq q.proc.no e.proc.no) [
-    | inl same ↦ omega (arith, h.each q chan o l n, is q.proc.no chan, merged_same old e.proc.no (part row) q.proc.no chan same)
-    | inr other ↦ omega (arith, h.each q chan o l n, is q.proc.no chan, merged_other old e.proc.no (part row) q.proc.no chan other)
-  ]
-  | inr s ↦
-      let t : is_naming e.kind chan ≡ true = ap (λ z. is_naming z.kind chan) s ∙ n in
-      omega (arith, ap (λ z. z.number) s, named chan l, ap (λ b. cond b e.number 0) t, is q.proc.no chan, merged_same old e.proc.no (part row) q.proc.no chan (ap (λ z. z.proc.no) (sym s)))
-] }
+last_more E i e at old new row named is h = record {
+  each = λ q chan hq l n. elim (Contains-push_cases (take i E) e q (subst (λ zs. Contains zs q) (taken_more E i e at) hq)) [
+    | inl o ↦ elim (cases_eq q.proc.no e.proc.no) [
+      | inl same ↦ omega (arith, h.each q chan o l n, is q.proc.no chan, merged_same old e.proc.no (part row) q.proc.no chan same)
+      | inr other ↦ omega (arith, h.each q chan o l n, is q.proc.no chan, merged_other old e.proc.no (part row) q.proc.no chan other)
+    ]
+    | inr s ↦
+        let t : is_naming e.kind chan ≡ true = ap (λ z. is_naming z.kind chan) s ∙ n in
+        omega (arith, ap (λ z. z.number) s, named chan l, ap (λ b. cond b e.number 0) t, is q.proc.no chan, merged_same old e.proc.no (part row) q.proc.no chan (ap (λ z. z.proc.no) (sym s)))
+  ];
+}
 
 -- the last receives on lanes
 pub none_taken : (E : List Event) (lanes : Lane → Option Taken) → ((lane : Lane) → lanes lane ≡ None) → AreTaken E lanes

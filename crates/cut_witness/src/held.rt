@@ -1,6 +1,6 @@
 //! Letters that wait on an ordered channel behind another that waits.
 
-ghost use Rattle.std.specs.Prelude.{◌≡◌, ℕ, List, Some, true, OnOk, IfOk, Contains, if◌then◌else◌};
+ghost use Rattle.std.specs.Prelude.{◌≡◌, List, Some, true, OnOk, IfOk, if◌then◌else◌};
 ghost use Rattle.indexmap.specs.IndexMap.{get};
 ghost use Rattle.indexmap.specs.IndexSet.{contains};
 ghost use Rattle.nm_base.specs.Message.{same_name};

@@ -53,12 +53,7 @@ fn note_at(
 }
 
 /// The name of the letter that an event sends, if it is logged and was never received.
-fn lost_at(
-    events: &EventList,
-    mask: u32,
-    quiet: &IndexSet<LetterId>,
-    e: &Event,
-) -> Option<LetterId>
+fn lost_at(events: &EventList, mask: u32, quiet: &IndexSet<LetterId>, e: &Event) -> Option<LetterId>
     requires sound { Sound mask events.now.events }
     requires quiet { AreQuiet mask events.now.events (contains same_name quiet.now) }
     ensures { PassesOn (IsLoggedName mask events.now.events) (lost_name events.now.events e.now) result }

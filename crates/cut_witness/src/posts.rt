@@ -25,10 +25,7 @@ pub struct Post {
 }
 
 /// The posts of the letters that are sent, by their names.
-pub fn posts_of(
-    alloc: Global,
-    events: &EventList,
-) -> Result<IndexMap<LetterId, Post>, WantOfMemory>
+pub fn posts_of(alloc: Global, events: &EventList) -> Result<IndexMap<LetterId, Post>, WantOfMemory>
     requires { Sound 0 events.now.events }
     ensures { IfOk result (λ posts. ArePosts events.now.events (get same_name posts)) }
 {
@@ -63,7 +60,10 @@ fn post_at(e: &Event, past: &Stamp) -> Option<(LetterId, Post)>
 {
     match e.kind {
         Kind::Sent {
-            number, dest, chan, ..
+            number,
+            dest,
+            chan,
+            ..
         } => Some((
             LetterId {
                 sender: e.proc,
@@ -104,7 +104,7 @@ fn brought(posts: &IndexMap<LetterId, Post>, e: &Event) -> Stamp
 }
 
 /// The post of the letter that the event accepts.
-pub fn taken_post(posts: &IndexMap<LetterId, Post>, e: &Event) -> Option<Post>
+fn taken_post(posts: &IndexMap<LetterId, Post>, e: &Event) -> Option<Post>
     ensures { result ≡ post_taken (get same_name posts.now) (taken_of e.now) }
 {
     let id = taken_at(e)?;

@@ -1,6 +1,6 @@
 //! Letters that a few walks through a list tell not to be logged: all but few of those that don't race.
 
-ghost use Rattle.std.specs.Prelude.{◌≡◌, ◌==◌, ◌<◌, ◌≤◌, max, ℕ, List, Some, true, IfOk, OnOk, IfSome, Contains, length, slice_get, take, if◌then◌else◌};
+ghost use Rattle.std.specs.Prelude.{◌≡◌, ◌==◌, ◌<◌, ◌≤◌, max, ℕ, List, Some, true, IfOk, OnOk, IfSome, Contains, slice_get, take, if◌then◌else◌};
 ghost use Rattle.indexmap.specs.IndexMap.{get};
 ghost use Rattle.indexmap.specs.IndexSet.{contains};
 ghost use Rattle.nm_base.specs.Message.{same_name};
@@ -16,7 +16,7 @@ use crate::earlier::name_at;
 use crate::held::add_held;
 use crate::kept::taken_at;
 use crate::lookups::add_found;
-use crate::posts::{Post, post_of, posts_of, taken_post};
+use crate::posts::{Post, post_of, posts_of};
 use crate::query::names;
 use event_list::{Event, EventList};
 use indexmap::{IndexMap, IndexSet};

@@ -238,7 +238,10 @@ fn rounds(alloc: Global) -> Result<EventList, WantOfMemory>
 #[test]
 fn compares_letters_that_do_not_race(rt: HostRuntime) -> Result<(), Fail> {
     let list = rounds(rt.alloc())?;
-    assert_eq!(rt; compared_with(rt.alloc(), &NO_ENTRY, &list)?, Compared::Same);
+    assert_eq!(rt;
+        compared_with(rt.alloc(), &NO_ENTRY, &list)?,
+        Compared::Same
+    );
     Ok(())
 }
 

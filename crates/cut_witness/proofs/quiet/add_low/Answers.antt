@@ -32,8 +32,8 @@ loop-i-preserved c =
       quiet = λ h. quiet_more (contains same_name c.loop-i.quiet) (contains same_name c.add_found.new.letters) c.quiet_taken.result c.in_ok-add_found.ensures (c.quiet_taken.ensures E i c.requires.sound at posts v.last v.taken) (v.quiet h);
     }
 
-pub add_low_sent-requires-last : goal.add_low_sent-requires-last
-add_low_sent-requires-last c = last_all c.args.events.now.events c.loop-i.i (omega arith) (part_of c.loop-i.last) c.loop-i.invariant.last
+pub add_low_sent-requires-clause-last : goal.add_low_sent-requires-clause-last
+add_low_sent-requires-clause-last c = last_all c.args.events.now.events c.loop-i.i (omega arith) (part_of c.loop-i.last) c.loop-i.invariant.last
 
 pub returns : goal.returns
 returns c h = c.in_ok-add_low_sent.ensures (c.loop-i.invariant.quiet h)
