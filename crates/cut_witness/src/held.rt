@@ -62,8 +62,8 @@ fn quiet_behind(
     posts: &IndexMap<LetterId, Post>,
     e: &Event,
 ) -> Option<LetterId>
-    ensures { (E : List Event) → Sound mask E → ArePosts E (get same_name posts.now) → AreHeld E (get same_lane held.now)
-        → TellsQuiet mask E result }
+    ensures { (E : List Event) → Sound mask E → ArePosts E (get same_name posts.now)
+        → AreHeld E (get same_lane held.now) → TellsQuiet mask E result }
 {
     let id = name_at(e)?;
     let post = post_of(posts, id)?;

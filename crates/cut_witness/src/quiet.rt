@@ -111,8 +111,8 @@ fn quiet_taken(
     posts: &IndexMap<LetterId, Post>,
     e: &Event,
 ) -> Option<LetterId>
-    ensures { (E : List Event) (i : ℕ) → Sound mask E → slice_get E i ≡ Some e.now → ArePosts E (get same_name posts.now)
-        → AreLast (take i E) (part_of last.now) → AreTaken E (get same_lane lanes.now) → TellsQuiet mask E result }
+    ensures { (E : List Event) (i : ℕ) → Sound mask E → slice_get E i ≡ Some e.now
+        → ArePosts E (get same_name posts.now) → AreLast (take i E) (part_of last.now) → AreTaken E (get same_lane lanes.now) → TellsQuiet mask E result }
 {
     let id = taken_at(e)?;
     let post = post_of(posts, id)?;
@@ -152,7 +152,8 @@ fn low_letter(
     id: LetterId,
     post: &Post,
 ) -> Option<LetterId>
-    ensures { IfSome result (λ found. (found ≡ id) × IsLow mask (part_of last.now) (get same_lane lanes.now) id post.now) }
+    ensures { IfSome result (λ found. (found ≡ id)
+        × IsLow mask (part_of last.now) (get same_lane lanes.now) id post.now) }
 {
     if !is_low(mask, last, lanes, id, post) {
         return None;
