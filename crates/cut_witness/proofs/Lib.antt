@@ -1,10 +1,14 @@
 pub mod ComparingFacts
 pub mod EarlierFacts
 pub mod EntryFacts
+pub mod HeldFacts
 pub mod KeptFacts
 pub mod LawFacts
 pub mod ListingFacts
 pub mod LookupFacts
 pub mod MakingFacts
+pub mod PostFacts
 pub mod QueryFacts
+pub mod QuietFacts
+pub mod RoundFacts
 pub mod WorkedFacts

@@ -132,9 +132,14 @@ module _ (M : ℕ) (E : List Event) (id : LetterId) where
   untaken None w s = w
   untaken (Some b) w s = λ t. true≢false s
 
-  -- it waits
-  pub lost_unlogged : (o : Option Message) → Some id ≡ name_in o → (own : Option Event) → IsOwn E id own → is_some own ≡ false → (IsLoggedName M E id → ⊥) → PassesOn (IsLoggedName M E) (waiting_name E o) None
-  lost_unlogged o h own w s n = subst (λ o. PassesOn (IsLoggedName M E) o None) (sym (its_name o h (untaken own w s))) (inr (n, refl))
+  -- it isn't logged, or it waits
+  pub lost_unlogged : (o : Option Message) → Some id ≡ name_in o → (IsLoggedName M E id → ⊥) → PassesOn (IsLoggedName M E) (waiting_name E o) None
+  lost_unlogged None h n = refl
+  lost_unlogged (Some m) h n = by (is_taken E m.id)
+    where
+      by : (b : Bool) → PassesOn (IsLoggedName M E) (cond b None (Some m.id)) None
+      by true = refl
+      by false = inr (subst (λ i. IsLoggedName M E i → ⊥) (some_same id m.id h) n, refl)
 
   pub lost_logged : (o : Option Message) → Some id ≡ name_in o → (own : Option Event) → IsOwn E id own → is_some own ≡ false → IsLoggedName M E id → PassesOn (IsLoggedName M E) (waiting_name E o) (Some id)
   lost_logged o h own w s l = subst (λ o. PassesOn (IsLoggedName M E) o (Some id)) (sym (its_name o h (untaken own w s))) (inl (l, refl))

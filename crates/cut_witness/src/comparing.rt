@@ -10,6 +10,7 @@ ghost use Rattle.cut_witness.specs.Comparisons.{HasEntries, IsCompared};
 use crate::comparisons::Compared;
 use crate::listing::{lost_of, notes_of};
 use crate::lookups::first_lacking;
+use crate::quiet::quiet_of;
 use event_list::EventList;
 use nm_base::{AcceptNote, LetterId, WantOfMemory};
 use std::alloc::Global;
@@ -24,8 +25,9 @@ pub fn compare(alloc: Global, trace: &Trace, events: &EventList) -> Result<Compa
         ↔ HasEntries trace.now.mask trace.now.notes trace.now.lost events.now.events) }
 {
     let mask = trace.mask();
-    let notes = notes_of(alloc, events, mask)?;
-    let lost = lost_of(alloc, events, mask)?;
+    let quiet = quiet_of(alloc, events, mask)?;
+    let notes = notes_of(alloc, events, mask, &quiet)?;
+    let lost = lost_of(alloc, events, mask, &quiet)?;
     let compared = compare_entries(alloc, trace, &notes, &lost)?;
     Ok(compared)
 }

@@ -6,12 +6,15 @@ mod certificates;
 mod comparing;
 mod comparisons;
 mod earlier;
+mod held;
 mod kept;
 pub mod laws;
 mod listing;
 mod lookups;
 mod making;
+mod posts;
 mod query;
+mod quiet;
 #[cfg(test)]
 mod tests;
 

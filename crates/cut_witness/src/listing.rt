@@ -1,34 +1,48 @@
 //! The entries of a list of events: a note for each logged letter that was received, and each that wasn't.
 
 ghost use Rattle.std.specs.Prelude.{◌≡◌, ◌↔◌, IfOk, IsTrue, Contains};
+ghost use Rattle.indexmap.specs.IndexSet.{contains};
 ghost use Rattle.nm_base.specs.declared.letter.AcceptNote.{AcceptNote};
+ghost use Rattle.nm_base.specs.Message.{same_name};
 ghost use Rattle.event_list.specs.Runs.{Sound};
 ghost use Rattle.event_list.specs.Traces.{IsLoggedName, AreNotesOf, AreLostOf, note_of};
 ghost use Rattle.cut_witness.specs.private.Lookups.{PassesOn, lost_of as lost_name};
+ghost use Rattle.cut_witness.specs.private.Quiet.{AreQuiet};
 
 use crate::earlier::{name_at, receive_of};
 use crate::kept::{receive_number, taken_at};
 use crate::making::find;
 use event_list::{Event, EventList};
+use indexmap::IndexSet;
 use nm_base::{AcceptNote, LetterId, WantOfMemory};
 use std::alloc::Global;
 
-/// Whether the letter is logged.
-fn is_logged(events: &EventList, mask: u32, id: LetterId) -> bool
-    requires { Sound mask events.now.events }
+/// Whether the letter is logged. It is looked for only if it isn't one of those that are known not to be.
+fn is_logged(events: &EventList, mask: u32, quiet: &IndexSet<LetterId>, id: LetterId) -> bool
+    requires sound { Sound mask events.now.events }
+    requires quiet { AreQuiet mask events.now.events (contains same_name quiet.now) }
     ensures { IsTrue result ↔ IsLoggedName mask events.now.events id }
 {
+    if quiet.contains(&id) {
+        return false;
+    }
     find(events, mask, id).is_some()
 }
 
 /// The note of an event, if it accepts a logged letter.
-fn note_at(events: &EventList, mask: u32, e: &Event) -> Option<AcceptNote>
-    requires { Sound mask events.now.events }
+fn note_at(
+    events: &EventList,
+    mask: u32,
+    quiet: &IndexSet<LetterId>,
+    e: &Event,
+) -> Option<AcceptNote>
+    requires sound { Sound mask events.now.events }
+    requires quiet { AreQuiet mask events.now.events (contains same_name quiet.now) }
     ensures { Contains events.now.events e.now
         → PassesOn (λ note. IsLoggedName mask events.now.events note.id) (note_of events.now.events e.now) result }
 {
     let id = taken_at(e)?;
-    if !is_logged(events, mask, id) {
+    if !is_logged(events, mask, quiet, id) {
         return None;
     }
     Some(AcceptNote {
@@ -39,15 +53,16 @@ fn note_at(events: &EventList, mask: u32, e: &Event) -> Option<AcceptNote>
 }
 
 /// The name of the letter that an event sends, if it is logged and was never received.
-fn lost_at(events: &EventList, mask: u32, e: &Event) -> Option<LetterId>
-    requires { Sound mask events.now.events }
+fn lost_at(events: &EventList, mask: u32, quiet: &IndexSet<LetterId>, e: &Event) -> Option<LetterId>
+    requires sound { Sound mask events.now.events }
+    requires quiet { AreQuiet mask events.now.events (contains same_name quiet.now) }
     ensures { PassesOn (IsLoggedName mask events.now.events) (lost_name events.now.events e.now) result }
 {
     let id = name_at(e)?;
-    if receive_of(events, id).is_some() {
+    if !is_logged(events, mask, quiet, id) {
         return None;
     }
-    if !is_logged(events, mask, id) {
+    if receive_of(events, id).is_some() {
         return None;
     }
     Some(id)
@@ -58,13 +73,15 @@ pub fn notes_of(
     alloc: Global,
     events: &EventList,
     mask: u32,
+    quiet: &IndexSet<LetterId>,
 ) -> Result<Vec<AcceptNote>, WantOfMemory>
-    requires { Sound mask events.now.events }
+    requires sound { Sound mask events.now.events }
+    requires quiet { AreQuiet mask events.now.events (contains same_name quiet.now) }
     ensures { IfOk result (λ notes. AreNotesOf mask events.now.events notes.items) }
 {
     let mut notes = Vec::new(alloc);
     for i in 0..events.len() {
-        let Some(note) = note_at(events, mask, events.at(i)) else {
+        let Some(note) = note_at(events, mask, quiet, events.at(i)) else {
             continue;
         };
         if notes.push(note).is_err() {
@@ -75,13 +92,19 @@ pub fn notes_of(
 }
 
 /// The logged letters of the list that were never received.
-pub fn lost_of(alloc: Global, events: &EventList, mask: u32) -> Result<Vec<LetterId>, WantOfMemory>
-    requires { Sound mask events.now.events }
+pub fn lost_of(
+    alloc: Global,
+    events: &EventList,
+    mask: u32,
+    quiet: &IndexSet<LetterId>,
+) -> Result<Vec<LetterId>, WantOfMemory>
+    requires sound { Sound mask events.now.events }
+    requires quiet { AreQuiet mask events.now.events (contains same_name quiet.now) }
     ensures { IfOk result (λ lost. AreLostOf mask events.now.events lost.items) }
 {
     let mut lost = Vec::new(alloc);
     for i in 0..events.len() {
-        let Some(id) = lost_at(events, mask, events.at(i)) else {
+        let Some(id) = lost_at(events, mask, quiet, events.at(i)) else {
             continue;
         };
         if lost.push(id).is_err() {

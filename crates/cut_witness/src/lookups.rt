@@ -7,7 +7,7 @@ ghost use Rattle.nm_base.specs.declared.letter.AcceptNote.{AcceptNote};
 ghost use Rattle.nm_base.specs.declared.letter.LetterId.{LetterId};
 ghost use Rattle.cut_witness.specs.Comparisons.{trace_entries};
 ghost use Rattle.cut_witness.specs.declared.lookups.NoteKey.{NoteKey};
-ghost use Rattle.cut_witness.specs.private.Lookups.{key_of, same_key, has_note, has_lost, has, Holds, FindsFirst, FindsLacking};
+ghost use Rattle.cut_witness.specs.private.Lookups.{key_of, same_key, has_note, has_lost, has, Holds, FindsFirst, FindsLacking, with_name};
 
 use indexmap::IndexSet;
 use nm_base::{AcceptNote, LetterId, ProcNo, WantOfMemory};
@@ -117,6 +117,20 @@ fn add_letter(lost: &mut IndexSet<LetterId>, id: LetterId) -> Result<(), WantOfM
     match lost.insert(id) {
         Ok(_) => Ok(()),
         Err(_) => Err(WantOfMemory),
+    }
+}
+
+/// Adds the letter, if there is one.
+pub fn add_found(
+    letters: &mut IndexSet<LetterId>,
+    found: Option<LetterId>,
+) -> Result<(), WantOfMemory>
+    ensures { OnOk result ((q : LetterId) → contains same_name letters.new q
+        ≡ with_name found q (contains same_name letters.old q)) }
+{
+    match found {
+        Some(id) => add_letter(letters, id),
+        None => Ok(()),
     }
 }
 

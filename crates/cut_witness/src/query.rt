@@ -94,7 +94,7 @@ fn precedes(e: &Event, id: LetterId, dest: ProcNo, chan: u8) -> bool
     }
 }
 
-fn names(e: &Event, chan: u8) -> bool
+pub fn names(e: &Event, chan: u8) -> bool
     ensures { result ≡ is_naming e.now.kind chan }
 {
     match e.kind {

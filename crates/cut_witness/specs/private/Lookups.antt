@@ -60,3 +60,8 @@ FindsFirst P xs (Some id) = FirstNames P xs id
 abbrev pub FindsLacking : List Entry → List Entry → Option LetterId → Type 0
 FindsLacking xs ys None = (x : Entry) → Contains xs x → Contains ys x
 FindsLacking xs ys (Some id) = FirstNames (λ x. Contains ys x → ⊥) xs id
+
+-- whether the set has the name after another is added, if there is one
+abbrev pub with_name : Option LetterId → LetterId → Bool → Bool
+with_name None q had = had
+with_name (Some id) q had = if same_name id q then true else had

@@ -4,7 +4,7 @@ use Rattle.cut_witness.proofs.ListingFacts.{note_none, note_unlogged, note_logge
 use Rattle.cut_witness.proofs.listing.note_at.Goals as goal
 
 pub receive_number-requires : goal.receive_number-requires
-receive_number-requires c = sound_unmasked c.requires
+receive_number-requires c = sound_unmasked c.requires.sound
 
 pub returns-in_err-id : goal.returns-in_err-id
 returns-in_err-id c h = rw c.from_residual.ensures (note_none c.args.mask c.args.events.now.events c.args.e.now c.in_err-id.ensures)
