@@ -10,5 +10,4 @@ pub mod MakingFacts
 pub mod PostFacts
 pub mod QueryFacts
 pub mod QuietFacts
-pub mod RoundFacts
 pub mod WorkedFacts

@@ -1,6 +1,6 @@
 //! The certificate of a letter that raced, and traces that are compared with its run: two senders and a receiver.
 
-ghost use Rattle.std.specs.Prelude.{◌≡◌, ◌+◌, ◌*◌, ◌<◌, [], ◌∷◌, ◌++◌, IfOk};
+ghost use Rattle.std.specs.Prelude.{◌≡◌, ◌<◌, [], ◌∷◌, ◌++◌, IfOk};
 ghost use Rattle.nm_base.specs.declared.kind.Kind.TheVariants.{Sent, Accepted};
 ghost use Rattle.event_list.specs.Runs.{Sound};
 
@@ -140,13 +140,6 @@ const LOST: [u8; 51] = [
 /// What comes of comparing the run with the trace of this end.
 fn compared(alloc: Global, end: &[u8]) -> Result<Compared, Fail> {
     let list = run(alloc)?;
-    compared_with(alloc, end, &list)
-}
-
-/// What comes of comparing a list with the trace of this end.
-fn compared_with(alloc: Global, end: &[u8], list: &EventList) -> Result<Compared, Fail>
-    requires { Sound 0 list.now.events }
-{
     let mut bytes = Vec::from_slice(alloc, &HEADER)?;
     bytes.extend_from_slice(end)?;
     if bytes.len() > 200 {
@@ -156,7 +149,7 @@ fn compared_with(alloc: Global, end: &[u8], list: &EventList) -> Result<Compared
     if trace.mask() != 0 {
         return Err("it has a mask")?;
     }
-    Ok(compare(alloc, &trace, list)?)
+    Ok(compare(alloc, &trace, &list)?)
 }
 
 /// The trace of the run is the same. One without its note differs by the note, and one with an entry too many
@@ -174,74 +167,6 @@ fn compares_traces(rt: HostRuntime) -> Result<(), Fail> {
     for (end, expected) in cases {
         assert_eq!(rt; compared(rt.alloc(), end)?, expected);
     }
-    Ok(())
-}
-
-/// Process 0 sends a letter to itself.
-fn to_itself(k: u32) -> Event
-    requires { k < 1000 }
-    ensures { result ≡ record {
-      proc = record { no = 0 };
-      number = 2 * k + 1;
-      kind = Sent k (record { no = 0 }) 0 1
-          (7 ∷ 0 ∷ 0 ∷ 0 ∷ 0 ∷ 0 ∷ 0 ∷ 0 ∷ []);
-    } }
-{
-    Event {
-        proc: ProcNo { no: 0 },
-        number: 2 * k + 1,
-        kind: Kind::Sent {
-            number: k,
-            dest: ProcNo { no: 0 },
-            chan: 0,
-            len: 1,
-            words: [7, 0, 0, 0, 0, 0, 0, 0],
-        },
-    }
-}
-
-/// And takes it.
-fn from_itself(k: u32) -> Event
-    requires { k < 1000 }
-    ensures { result ≡ record {
-      proc = record { no = 0 };
-      number = 2 * k + 2;
-      kind = Accepted 1 (record { sender = record { no = 0 }; number = k });
-    } }
-{
-    Event {
-        proc: ProcNo { no: 0 },
-        number: 2 * k + 2,
-        kind: Kind::Accepted {
-            set: 1,
-            id: LetterId {
-                sender: ProcNo { no: 0 },
-                number: k,
-            },
-        },
-    }
-}
-
-/// Process 0 sends 1000 letters to itself, and takes each at once.
-fn rounds(alloc: Global) -> Result<EventList, WantOfMemory>
-    ensures { IfOk result (λ list. Sound 0 list.events) }
-{
-    let mut list = EventList::new(alloc)?;
-    for k in 0..1000 {
-        list.push(alloc, to_itself(k))?;
-        list.push(alloc, from_itself(k))?;
-    }
-    Ok(list)
-}
-
-/// Of many letters that don't race, none is looked for: the comparison ends at once.
-#[test]
-fn compares_letters_that_do_not_race(rt: HostRuntime) -> Result<(), Fail> {
-    let list = rounds(rt.alloc())?;
-    assert_eq!(rt;
-        compared_with(rt.alloc(), &NO_ENTRY, &list)?,
-        Compared::Same
-    );
     Ok(())
 }
 
