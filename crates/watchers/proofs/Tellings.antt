@@ -1,7 +1,7 @@
 -- Lemmas for a telling, step by step.
 use Rattle.std.proofs.Common.{◌≡◌, ℕ, zero, suc, ◌+◌, ◌<◌, ◌≤◌, Bool, true, false, List, [], ◌∷◌, ◌++◌, length, take, drop, map, slice_index_or, slice_set, refl, sym, ap, ◌∙◌, subst, arith}
 use Rattle.std.specs.List.{remove}
-use Rattle.std.proofs.lemmas.List.{append_assoc, append-nil, take_all, drop_all, length-map}
+use Rattle.std.proofs.lemmas.List.{append_assoc, append-nil, take_all, drop_all}
 use Rattle.event_list.specs.declared.Event.{Event}
 use Rattle.watchers.specs.Watched.{Watched, Told, told, nobody, noted, lacked}
 use Rattle.watchers.specs.private.Telling.{IsTelling}

@@ -1,5 +1,5 @@
 -- What a watcher is, and what a telling makes of a list of watchers.
-use Rattle.std.specs.Prelude.{◌≡◌, ℕ, ◌+◌, Bool, false, List, [], ◌∷◌, ◌++◌, take, drop, fold}
+use Rattle.std.specs.Prelude.{◌≡◌, ℕ, ◌+◌, Bool, false, List, [], ◌∷◌, fold}
 use Rattle.event_list.specs.declared.Event.{Event}
 
 -- a kind of watcher: what it notes of an event, after which notes it stops, the bytes that it says, and whether it is steady
