@@ -1,0 +1,2 @@
+mod Thinning
+mod Fronts
