@@ -1,8 +1,9 @@
 -- The worlds with at most k events stand first.
 use Rattle.std.proofs.Common.{◌≡◌, ℕ, zero, suc, ◌+◌, ◌-◌, ◌<◌, ◌≤◌, Bool, true, false, List, [], ◌∷◌, length, take, slice_index_or, refl, sym, ap, ◌∙◌, subst, arith, ⊎_elim}
-use Rattle.std.specs.Prelude.{All, nat_le, cond}
+use Rattle.std.specs.Prelude.{All, nat_le, cond, Some, slice_get}
 use Rattle.std.specs.List.{AllPairs}
 use Rattle.std.proofs.lemmas.Bool.{cases_lt}
+use Rattle.std.proofs.lemmas.Option.{same_Some, slice_get-get_or}
 use Rattle.std.proofs.lemmas.List.{take_all, get_or_default}
 use Rattle.std.proofs.lemmas.List.Elements.{All-tail}
 use Rattle.world.specs.Worlds.{Parts}
@@ -61,3 +62,9 @@ last_is_longest xs v rises some is i d within =
           subst (λ j. (slice_index_or xs j d).events ≤ v.events) (sym at)
             (subst (λ w. w.events ≤ v.events) (get_or_default xs (length xs - 1) v d (omega (arith, some))) (subst (λ w. w.events ≤ v.events) is (omega arith))))
       (cases_lt i (length xs - 1))
+
+pub longest_from_last : {P M : Type 0} (xs : List (Parts P M)) (v : Parts P M) → AllPairs (λ v w. v.events < w.events) xs
+    → Some v ≡ slice_get xs (length xs - 1) → All (λ w. w.events ≤ v.events) xs
+longest_from_last [] v rises e = λ k d lt. absurd (omega (arith, lt))
+longest_from_last (x ∷ xs) v rises e =
+    last_is_longest (x ∷ xs) v rises (omega arith) (same_Some _ _ (e ∙ slice_get-get_or (x ∷ xs) (length (x ∷ xs) - 1) v (omega arith)))

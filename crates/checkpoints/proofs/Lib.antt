@@ -1,2 +1,3 @@
 mod Thinning
 mod Fronts
+mod Keeping

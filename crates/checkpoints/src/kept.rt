@@ -3,7 +3,7 @@
 ghost use Rattle.std.specs.Prelude.{◌≡◌, ◌≤◌, [], All, IfOk, OnOk, OnErr, IfSome, IfNone};
 ghost use Rattle.checkpoints.specs.Kept.{AreBelow, KeepsCopy, IsCopyOf, up_to, last};
 
-use crate::parts::{copy_of_last, count_up_to, thin};
+use crate::parts::{copy_of_last, count_up_to, make_room, put_last, thin};
 use mailboxes::Mail;
 use nm_base::WantOfMemory;
 use processes::Proc;
@@ -59,12 +59,10 @@ impl<P: Proc, M: Mail> Checkpoints<P, M> {
         ensures refused { OnErr result (self.new ≡ self.old) }
     {
         let copy = world.copy(alloc)?;
-        self.worlds.reserve(1).map_err(|_| WantOfMemory)?;
+        make_room(&mut self.worlds)?;
         thin(&mut self.worlds);
-        match self.worlds.push(copy) {
-            Ok(()) => Ok(()),
-            Err(_) => unreachable!(),
-        }
+        put_last(&mut self.worlds, copy);
+        Ok(())
     }
 
     /// A copy of the last kept world with at most k events, and none exactly where there is none.

@@ -1,6 +1,6 @@
 //! Steps over lists of worlds.
 
-ghost use Rattle.std.specs.Prelude.{◌≡◌, ◌≤◌, ◌<◌, length, take, IfOk};
+ghost use Rattle.std.specs.Prelude.{◌≡◌, ◌≤◌, ◌<◌, length, take, [], ◌∷◌, ◌++◌, IfOk, OnOk};
 ghost use Rattle.std.specs.Vec.{vec_len, vec_capacity};
 ghost use Rattle.checkpoints.specs.Kept.{AreKept, IsCopyOf, evens, thinned, up_to, last};
 
@@ -11,7 +11,28 @@ use processes::Proc;
 use std::alloc::Global;
 use world::World;
 
-/// Makes room for one more: where 16 are kept, those at the places 1, 3, .., 15 go.
+/// Makes room in memory for one more.
+pub(crate) fn make_room<P: Proc, M: Mail>(
+    worlds: &mut Vec<World<P, M>>,
+) -> Result<(), WantOfMemory>
+    ensures same { worlds.new.items ≡ worlds.old.items }
+    ensures room { OnOk result (vec_len worlds.new < vec_capacity worlds.new) }
+{
+    worlds.reserve(1).map_err(|_| WantOfMemory)
+}
+
+/// Puts a world last, where there is room in memory.
+pub(crate) fn put_last<P: Proc, M: Mail>(worlds: &mut Vec<World<P, M>>, world: World<P, M>)
+    requires room { vec_len worlds.old < vec_capacity worlds.old }
+    ensures { worlds.new.items ≡ worlds.old.items ++ world ∷ [] }
+{
+    match worlds.push(world) {
+        Ok(()) => {}
+        Err(_) => unreachable!(),
+    }
+}
+
+/// Makes room among 16: where 16 are kept, those at the places 1, 3, .., 15 go.
 pub(crate) fn thin<P: Proc, M: Mail>(worlds: &mut Vec<World<P, M>>)
     ensures thinned { worlds.new.items ≡ thinned worlds.old.items }
     ensures len { vec_len worlds.new ≤ vec_len worlds.old }
