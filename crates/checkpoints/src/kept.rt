@@ -1,6 +1,6 @@
 //! Kept worlds.
 
-ghost use Rattle.std.specs.Prelude.{◌≡◌, ◌≤◌, [], All, IfOk, OnOk, OnErr, IfSome, IfNone};
+ghost use Rattle.std.specs.Prelude.{◌≡◌, ◌≤◌, [], All, IfOk, OnOk, OnErr, IfSome, IfNone, option_map};
 ghost use Rattle.checkpoints.specs.Kept.{AreBelow, KeepsCopy, IsCopyOf, up_to, last};
 
 use crate::parts::{copy_of_last, count_up_to, make_room, put_last, thin};
@@ -44,6 +44,7 @@ impl<P: Proc, M: Mail> Checkpoints<P, M> {
 
     /// The number of events of the last kept world, if one is kept.
     pub fn longest(&self) -> Option<u32>
+        ensures last { result ≡ option_map (λ w. w.events) (last self.now) }
         ensures none { IfNone result (self.now ≡ []) }
         ensures longest { IfSome result (λ n. All (λ w. w.events ≤ n) self.now) }
     {
