@@ -48,20 +48,20 @@ module _ {P M : Type 0} (k : ℕ) where
       → ((i : ℕ) (d : Parts P M) → i < n → (slice_index_or xs i d).events ≤ k) → (i : ℕ) (d : Parts P M) → i < n + 1 → (slice_index_or xs i d).events ≤ k
   one_more_few xs n e lt few first i d below =
       ⊎_elim (λ before. first i d before)
-        (λ last. let at : i ≡ n = omega (arith, below, last) in
-          subst (λ j. (slice_index_or xs j d).events ≤ k) (sym at) (subst (λ w. w.events ≤ k) (get_or_default xs n e d lt) few))
-        (cases_lt i n)
+      (λ last. let at : i ≡ n = omega (arith, below, last) in
+      subst (λ j. (slice_index_or xs j d).events ≤ k) (sym at) (subst (λ w. w.events ≤ k) (get_or_default xs n e d lt) few))
+      (cases_lt i n)
 
 -- the last has the most events
 pub last_is_longest : {P M : Type 0} (xs : List (Parts P M)) (v : Parts P M) → AllPairs (λ v w. v.events < w.events) xs → 0 < length xs
     → v ≡ slice_index_or xs (length xs - 1) v → All (λ w. w.events ≤ v.events) xs
 last_is_longest xs v rises some is i d within =
     ⊎_elim (λ before. let lt = rises i (length xs - 1) v before (omega (arith, some)) in
-          subst (λ w. w.events ≤ v.events) (get_or_default xs i v d within) (omega (arith, lt, ap (λ w. w.events) is)))
-      (λ last. let at : i ≡ length xs - 1 = omega (arith, within, last) in
-          subst (λ j. (slice_index_or xs j d).events ≤ v.events) (sym at)
-            (subst (λ w. w.events ≤ v.events) (get_or_default xs (length xs - 1) v d (omega (arith, some))) (subst (λ w. w.events ≤ v.events) is (omega arith))))
-      (cases_lt i (length xs - 1))
+    subst (λ w. w.events ≤ v.events) (get_or_default xs i v d within) (omega (arith, lt, ap (λ w. w.events) is)))
+    (λ last. let at : i ≡ length xs - 1 = omega (arith, within, last) in
+    subst (λ j. (slice_index_or xs j d).events ≤ v.events) (sym at)
+    (subst (λ w. w.events ≤ v.events) (get_or_default xs (length xs - 1) v d (omega (arith, some))) (subst (λ w. w.events ≤ v.events) is (omega arith))))
+    (cases_lt i (length xs - 1))
 
 pub longest_from_last : {P M : Type 0} (xs : List (Parts P M)) (v : Parts P M) → AllPairs (λ v w. v.events < w.events) xs
     → Some v ≡ slice_get xs (length xs - 1) → All (λ w. w.events ≤ v.events) xs

@@ -27,8 +27,8 @@ module _ {P M : Type 0} where
   pub kept_front : (xs : List (Parts P M)) (n : ℕ) → n ≤ length xs → AreKept xs → AreKept (take n xs)
   kept_front xs n le h = record {
     rises = λ i j d lt within.
-      let short = length-take n xs in
-      subst (λ v. v.events < (slice_index_or (take n xs) j d).events) (sym (get_or-take n xs i d (omega (arith, lt, within, short))))
+        let short = length-take n xs in
+        subst (λ v. v.events < (slice_index_or (take n xs) j d).events) (sym (get_or-take n xs i d (omega (arith, lt, within, short))))
         (subst (λ v. (slice_index_or xs i d).events < v.events) (sym (get_or-take n xs j d (omega (arith, within, short)))) (h.rises i j d lt (omega (arith, within, short))));
     few = omega (arith, length-take n xs, h.few);
   }

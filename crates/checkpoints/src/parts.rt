@@ -12,9 +12,7 @@ use std::alloc::Global;
 use world::World;
 
 /// Makes room in memory for one more.
-pub(crate) fn make_room<P: Proc, M: Mail>(
-    worlds: &mut Vec<World<P, M>>,
-) -> Result<(), WantOfMemory>
+pub(crate) fn make_room<P: Proc, M: Mail>(worlds: &mut Vec<World<P, M>>) -> Result<(), WantOfMemory>
     ensures same { worlds.new.items ≡ worlds.old.items }
     ensures room { OnOk result (vec_len worlds.new < vec_capacity worlds.new) }
 {

@@ -45,11 +45,13 @@ pub says_nothing : (note : Note) → text_in note ≡ [] → Says note []
 says_nothing note is = record { is = is; plain = plain_nothing }
 
 -- a word and a number behind it
-pub says_more : (note next : Note) (text word : List ℕ) (n : ℕ) → Says note text → text_in next ≡ text_in note ++ word ++ decimal n
+pub says_more : (note next : Note) (text word : List ℕ) (n : ℕ) → Says note text
+    → text_in next ≡ text_in note ++ word ++ decimal n
     → list_all (λ b. not (b == 10)) word ≡ true → n < 2 ^ 64 → Says next (text ++ word ++ decimal n)
 says_more note next text word n h is test small = record {
   is = is ∙ ap (λ t. t ++ word ++ decimal n) h.is;
-  plain = All-append (λ x. x ≢ 10) (text ++ word) (decimal n) (All-append (λ x. x ≢ 10) text word h.plain (plain_word word test)) (plain_decimal n small);
+  plain = All-append (λ x. x ≢ 10) (text ++ word) (decimal n)
+      (All-append (λ x. x ≢ 10) text word h.plain (plain_word word test)) (plain_decimal n small);
 }
 
 pub is_line : (note : Note) (text : List ℕ) → note.len ≤ 192 → Says note text → IsLine text note

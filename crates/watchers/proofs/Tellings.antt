@@ -7,12 +7,14 @@ use Rattle.watchers.specs.Watched.{Watched, Told, told, nobody, noted, lacked}
 use Rattle.watchers.specs.private.Telling.{IsTelling}
 
 -- one more watcher was told, and noted the event or lacked memory
-pub noted_one_more : {e : Event} {xs ys : List Watched} {n : ℕ} (w : Watched) → Told e xs ys n → Told e (xs ++ w ∷ []) (ys ++ told w e ∷ []) n
+pub noted_one_more : {e : Event} {xs ys : List Watched} {n : ℕ} (w : Watched)
+    → Told e xs ys n → Told e (xs ++ w ∷ []) (ys ++ told w e ∷ []) n
 noted_one_more w nobody = noted nobody
 noted_one_more w (noted rest) = noted (noted_one_more w rest)
 noted_one_more w (lacked loose rest) = lacked loose (noted_one_more w rest)
 
-pub lacked_one_more : {e : Event} {xs ys : List Watched} {n : ℕ} (w : Watched) → w.kind.steady ≡ false → Told e xs ys n → Told e (xs ++ w ∷ []) ys (1 + n)
+pub lacked_one_more : {e : Event} {xs ys : List Watched} {n : ℕ} (w : Watched)
+    → w.kind.steady ≡ false → Told e xs ys n → Told e (xs ++ w ∷ []) ys (1 + n)
 lacked_one_more w is nobody = lacked is nobody
 lacked_one_more w is (noted rest) = noted (lacked_one_more w is rest)
 lacked_one_more w is (lacked loose rest) = lacked loose (lacked_one_more w is rest)
@@ -25,12 +27,14 @@ told_length (lacked loose rest) = let a = told_length rest in omega arith
 
 -- what a change at one place, seen through f, leaves before and behind it
 module _ {A B : Type 0} (f : A → B) where
-  pub behind_is : (xs : List A) (i : ℕ) (d : A) → i < length xs → drop i (map f xs) ≡ f (slice_index_or xs i d) ∷ drop (suc i) (map f xs)
+  pub behind_is : (xs : List A) (i : ℕ) (d : A) → i < length xs
+      → drop i (map f xs) ≡ f (slice_index_or xs i d) ∷ drop (suc i) (map f xs)
   behind_is [] i d lt = absurd (omega arith)
   behind_is (x ∷ xs) zero d lt = refl
   behind_is (x ∷ xs) (suc i) d lt = behind_is xs i d (omega arith)
 
-  pub set_before : (xs : List A) (i : ℕ) (y : A) → i < length xs → take (suc i) (map f (slice_set xs i y)) ≡ take i (map f xs) ++ f y ∷ []
+  pub set_before : (xs : List A) (i : ℕ) (y : A) → i < length xs
+      → take (suc i) (map f (slice_set xs i y)) ≡ take i (map f xs) ++ f y ∷ []
   set_before [] i y lt = absurd (omega arith)
   set_before (x ∷ xs) zero y lt = refl
   set_before (x ∷ xs) (suc i) y lt = ap (λ l. f x ∷ l) (set_before xs i y (omega arith))
@@ -46,7 +50,8 @@ module _ {A B : Type 0} (f : A → B) where
   map_remove (x ∷ xs) zero = refl
   map_remove (x ∷ xs) (suc i) = ap (λ l. f x ∷ l) (map_remove xs i)
 
-  pub set_alike : (xs : List A) (i : ℕ) (d y : A) → f y ≡ f (slice_index_or xs i d) → map f (slice_set xs i y) ≡ map f xs
+  pub set_alike : (xs : List A) (i : ℕ) (d y : A) → f y ≡ f (slice_index_or xs i d)
+      → map f (slice_set xs i y) ≡ map f xs
   set_alike [] i d y is = refl
   set_alike (x ∷ xs) zero d y is = ap (λ v. v ∷ map f xs) is
   set_alike (x ∷ xs) (suc i) d y is = ap (λ l. f x ∷ l) (set_alike xs i d y is)
@@ -74,7 +79,8 @@ ended {e} {old} {now} {i} {n} t le =
 
 module _ {A : Type 0} (f : A → Watched) {e : Event} {old : List Watched} {i n : ℕ} where
   -- the i-th noted the event, and y is what it is afterwards
-  pub one_noted : (xs : List A) (d y : A) → IsTelling e old (map f xs) i n → i < length xs → f y ≡ told (f (slice_index_or xs i d)) e
+  pub one_noted : (xs : List A) (d y : A) → IsTelling e old (map f xs) i n → i < length xs
+      → f y ≡ told (f (slice_index_or xs i d)) e
       → IsTelling e old (map f (slice_set xs i y)) (i + 1) n
   one_noted xs d y t lt is =
       let w = f (slice_index_or xs i d) in
@@ -83,13 +89,16 @@ module _ {A : Type 0} (f : A → Watched) {e : Event} {old : List Watched} {i n 
       let front = ap (λ v. take i (map f xs) ++ v ∷ []) (sym is) ∙ sym (set_before f xs i y lt) in
       subst (λ k. IsTelling e old (map f (slice_set xs i y)) k n) on record {
         seen = t.seen ++ w ∷ [];
-        is = t.is ∙ ap (λ l. t.seen ++ l) rest ∙ sym (append_assoc t.seen (w ∷ []) (drop (suc i) (map f (slice_set xs i y))));
+        is = t.is ∙ ap (λ l. t.seen ++ l) rest 
+            ∙ sym (append_assoc t.seen (w ∷ []) (drop (suc i) (map f (slice_set xs i y))));
         told = subst (λ l. Told e (t.seen ++ w ∷ []) l n) front (noted_one_more w t.told);
       }
 
   -- the i-th lacked memory, and was taken out
-  pub one_lacked : (xs : List A) (d y : A) → IsTelling e old (map f xs) i n → i < length xs → f y ≡ f (slice_index_or xs i d)
-      → (f (slice_index_or xs i d)).kind.steady ≡ false → IsTelling e old (map f (remove (slice_set xs i y) i)) i (n + 1)
+  pub one_lacked : (xs : List A) (d y : A) → IsTelling e old (map f xs) i n → i < length xs
+      → f y ≡ f (slice_index_or xs i d)
+      → (f (slice_index_or xs i d)).kind.steady ≡ false
+      → IsTelling e old (map f (remove (slice_set xs i y) i)) i (n + 1)
   one_lacked xs d y t lt is loose =
       let w = f (slice_index_or xs i d) in
       let on : 1 + n ≡ n + 1 = omega arith in
@@ -98,7 +107,8 @@ module _ {A : Type 0} (f : A → Watched) {e : Event} {old : List Watched} {i n 
       subst (λ l. IsTelling e old l i (n + 1)) (sym same) record {
         seen = t.seen ++ w ∷ [];
         is = t.is ∙ ap (λ l. t.seen ++ l) rest ∙ sym (append_assoc t.seen (w ∷ []) (drop i (remove (map f xs) i)));
-        told = subst (λ l. Told e (t.seen ++ w ∷ []) l (n + 1)) (sym (removed_before (map f xs) i)) (subst (λ k. Told e (t.seen ++ w ∷ []) (take i (map f xs)) k) on (lacked_one_more w loose t.told));
+        told = subst (λ l. Told e (t.seen ++ w ∷ []) l (n + 1)) (sym (removed_before (map f xs) i))
+            (subst (λ k. Told e (t.seen ++ w ∷ []) (take i (map f xs)) k) on (lacked_one_more w loose t.told));
       }
 
 -- what can't be steady isn't

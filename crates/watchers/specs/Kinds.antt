@@ -47,7 +47,12 @@ fault_noted notes e =
     fault_notes (if is_fault e.kind then one_more (slice_index notes 0) else slice_index notes 0) (is_fault e.kind)
 
 abbrev pub fault_stop : WatcherKind
-fault_stop = record { noted = fault_noted; stops = λ notes. slice_index notes 1 == 1; said = λ notes. codes "faults " ++ decimal (slice_index notes 0); steady = true }
+fault_stop = record {
+  noted = fault_noted;
+  stops = λ notes. slice_index notes 1 == 1;
+  said = λ notes. codes "faults " ++ decimal (slice_index notes 0);
+  steady = true;
+}
 
 -- `LetterLog`: its notes are the sender and the number of each letter that was accepted
 abbrev pub name_notes : LetterId → List ℕ
@@ -57,4 +62,9 @@ abbrev pub letter_noted : List ℕ → Event → List ℕ
 letter_noted notes e = notes ++ flat_map name_notes (option_to_list (taken_of e))
 
 abbrev pub letter_log : WatcherKind
-letter_log = record { noted = letter_noted; stops = λ notes. false; said = λ notes. codes "letters " ++ decimal (length notes / 2); steady = false }
+letter_log = record {
+  noted = letter_noted;
+  stops = λ notes. false;
+  said = λ notes. codes "letters " ++ decimal (length notes / 2);
+  steady = false;
+}

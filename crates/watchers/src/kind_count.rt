@@ -18,7 +18,8 @@ pub struct KindCount {
 impl KindCount {
     /// Six counts of 0.
     pub fn new() -> KindCount
-        ensures { ⟦<KindCount as Watcher>⟧.watched result ≡ record { kind = kind_count; notes = 0 ∷ 0 ∷ 0 ∷ 0 ∷ 0 ∷ 0 ∷ [] } }
+        ensures { ⟦<KindCount as Watcher>⟧.watched result
+            ≡ record { kind = kind_count; notes = 0 ∷ 0 ∷ 0 ∷ 0 ∷ 0 ∷ 0 ∷ [] } }
     {
         KindCount { counts: [0; 6] }
     }

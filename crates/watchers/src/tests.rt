@@ -19,7 +19,12 @@ struct NotesTwo {
 
 impl Watcher for NotesTwo {
     ghost watched = { λ w. record {
-      kind = record { noted = λ notes e. (slice_index notes 0 + 1) ∷ []; stops = λ notes. false; said = λ notes. []; steady = false };
+      kind = record {
+        noted = λ notes e. (slice_index notes 0 + 1) ∷ [];
+        stops = λ notes. false;
+        said = λ notes. [];
+        steady = false;
+      };
       notes = w.seen ∷ [];
     } };
 
@@ -120,7 +125,13 @@ fn notes_events(rt: HostRuntime) -> Result<(), Fail> {
         assert_eq!(rt; stops(&list, faults), stop);
     }
     assert_eq!(rt; list.len(), 3);
-    assert!(rt; says(&list, 0, b"lines 1 sent 1 accepted 2 printed 1 ended 1 faulted 2"));
+    assert!(rt;
+        says(
+            &list,
+            0,
+            b"lines 1 sent 1 accepted 2 printed 1 ended 1 faulted 2"
+        )
+    );
     assert!(rt; says(&list, 1, b"letters 2"));
     assert!(rt; says(&list, 2, b"faults 2"));
     Ok(())
@@ -134,7 +145,13 @@ fn detaches_the_kth(rt: HostRuntime) -> Result<(), Fail> {
     list.push(Box::new(alloc, FaultStop::new())?)?;
     list.push(Box::new(alloc, LetterLog::new(alloc)?)?)?;
     assert_eq!(rt; tell(alloc, &mut list, &event(faulted())), 0);
-    for (k, detached, left) in [(2, false, 2), (1, true, 1), (1, false, 1), (0, true, 0), (0, false, 0)] {
+    for (k, detached, left) in [
+        (2, false, 2),
+        (1, true, 1),
+        (1, false, 1),
+        (0, true, 0),
+        (0, false, 0),
+    ] {
         assert_eq!(rt; detach(&mut list, k), detached);
         assert_eq!(rt; list.len(), left);
         assert_eq!(rt; says(&list, 0, b"faults 1"), left > 0);
