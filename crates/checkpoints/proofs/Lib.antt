@@ -1,0 +1,3 @@
+mod Thinning
+mod Fronts
+mod Keeping

@@ -1,0 +1,4 @@
+pub mod Watched
+pub mod Lines
+pub mod Kinds
+pub mod private
