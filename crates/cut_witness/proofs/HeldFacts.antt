@@ -1,12 +1,12 @@
 -- Letters that wait on an ordered channel behind another that waits.
-use Rattle.std.proofs.Common.{◌≡◌, ℕ, ◌+◌, ◌≤◌, Bool, true, false, cond, List, [], ◌∷◌, length, take, Option, Some, None, refl, sym, ap, ◌∙◌, subst, inl, inr, arith}
+use Rattle.std.proofs.Common.{◌≡◌, ℕ, ◌+◌, ◌≤◌, Bool, true, false, cond, List, length, take, Option, Some, None, refl, sym, ap, ◌∙◌, subst, inl, inr, arith}
 use Rattle.std.specs.Prelude.{Contains, slice_get, ◌==◌, ◌&&◌}
 use Rattle.std.proofs.lemmas.Bool.{eqb-true, and_parts, false≢true}
 use Rattle.std.proofs.lemmas.List.{take_all}
 use Rattle.std.proofs.lemmas.List.Elements.{Contains-push_cases}
 use Rattle.nm_base.specs.declared.letter.LetterId.{LetterId}
 use Rattle.nm_base.specs.Channels.{has_channel}
-use Rattle.nm_base.specs.Message.{Message, same_name}
+use Rattle.nm_base.specs.Message.{same_name}
 use Rattle.event_list.specs.declared.Event.{Event}
 use Rattle.event_list.specs.Events.{taken_of, taken_in, IsTaken, Precedes}
 use Rattle.event_list.specs.Races.{CouldTake}

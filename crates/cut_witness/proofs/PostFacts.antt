@@ -1,6 +1,6 @@
 -- What the posts and the clocks tell, event by event.
-use Rattle.std.proofs.Common.{◌≡◌, ℕ, ◌+◌, ◌<◌, ◌≤◌, max, Bool, true, false, cond, List, ◌∷◌, take, drop, Option, Some, None, refl, sym, ap, ◌∙◌, subst, inl, inr, arith}
-use Rattle.std.specs.Prelude.{Contains, slice_get, ◌==◌}
+use Rattle.std.proofs.Common.{◌≡◌, ℕ, ◌+◌, ◌<◌, ◌≤◌, max, Bool, true, false, cond, List, take, drop, Option, Some, None, refl, sym, ap, ◌∙◌, subst, inl, inr, arith}
+use Rattle.std.specs.Prelude.{Contains, slice_get}
 use Rattle.std.proofs.lemmas.Bool.{cases_eq, cases_lt, eq-eqb, ne_eqb}
 use Rattle.std.proofs.lemmas.List.{take-append-drop}
 use Rattle.std.proofs.lemmas.List.Elements.{Contains-append_right}
@@ -9,8 +9,8 @@ use Rattle.nm_base.specs.declared.letter.Stamp.{Stamp}
 use Rattle.nm_base.specs.Message.{Message, same_name}
 use Rattle.vector_clocks.specs.Parts.{part, merged_part}
 use Rattle.event_list.specs.declared.Event.{Event}
-use Rattle.event_list.specs.Events.{letter_of, taken_of, Sends}
-use Rattle.event_list.specs.Order.{Follows, Delivers, Link, Before, one, further}
+use Rattle.event_list.specs.Events.{letter_of, taken_of}
+use Rattle.event_list.specs.Order.{Follows, Delivers, Before, one, further}
 use Rattle.event_list.specs.Runs.{Sound}
 use Rattle.event_list.proofs.Members.{cons_there}
 use Rattle.event_list.proofs.Projections.{name_from}

@@ -1,13 +1,13 @@
 -- Letters that are told not to be logged.
-use Rattle.std.proofs.Common.{◌≡◌, ℕ, ◌+◌, ◌<◌, ◌≤◌, max, Bool, true, false, cond, List, [], ◌∷◌, ◌++◌, length, take, drop, Option, Some, None, refl, sym, ap, ◌∙◌, subst, inl, inr, arith}
+use Rattle.std.proofs.Common.{◌≡◌, ℕ, ◌+◌, ◌<◌, ◌≤◌, Bool, true, false, cond, List, ◌∷◌, length, take, drop, Option, Some, None, refl, sym, ap, ◌∙◌, subst, inl, inr, arith}
 use Rattle.std.specs.Prelude.{Contains, IfSome, slice_get, ◌==◌, ◌&&◌, nat_lt}
-use Rattle.std.proofs.lemmas.Bool.{cases_eq, cases_lt, eq-eqb, eqb-true, ltb-true, and_parts, false≢true}
+use Rattle.std.proofs.lemmas.Bool.{cases_eq, cases_lt, eqb-true, ltb-true, and_parts, false≢true}
 use Rattle.std.proofs.lemmas.List.{take_all}
 use Rattle.std.proofs.lemmas.List.Elements.{Contains-append_cases, Contains-push_cases}
 use Rattle.nm_base.specs.declared.letter.LetterId.{LetterId}
 use Rattle.nm_base.specs.declared.letter.Stamp.{Stamp}
 use Rattle.nm_base.specs.Channels.{has_channel}
-use Rattle.nm_base.specs.Message.{Message, same_name}
+use Rattle.nm_base.specs.Message.{same_name}
 use Rattle.vector_clocks.specs.Parts.{part, merged_part}
 use Rattle.event_list.specs.declared.Event.{Event}
 use Rattle.event_list.specs.Events.{taken_of, Accepts, Precedes}
@@ -24,7 +24,7 @@ use Rattle.cut_witness.specs.declared.posts.Post.{Post}
 use Rattle.cut_witness.specs.declared.quiet.Lane.{Lane}
 use Rattle.cut_witness.specs.declared.quiet.Taken.{Taken}
 use Rattle.cut_witness.specs.private.Lookups.{with_name}
-use Rattle.cut_witness.specs.private.Posts.{IsPost, ArePosts}
+use Rattle.cut_witness.specs.private.Posts.{IsPost}
 use Rattle.cut_witness.specs.private.Queries.{is_naming}
 use Rattle.cut_witness.specs.private.Quiet.{AreQuiet, AreLast, same_lane, lane_of, IsTakenOn, AreTaken, if_before, behind, IsLow, TellsQuiet}
 use Rattle.cut_witness.proofs.PostFacts.{merged_same, merged_other, left_later}

@@ -1,5 +1,5 @@
 -- Letters that are told not to be logged.
-use Rattle.std.specs.Prelude.{◌≡◌, ℕ, ◌<◌, ◌≤◌, ◌==◌, ◌&&◌, max, nat_lt, Bool, true, false, List, Option, None, Some, IfSome, Contains, if◌then◌else◌}
+use Rattle.std.specs.Prelude.{◌≡◌, ℕ, ◌<◌, ◌≤◌, ◌==◌, ◌&&◌, max, nat_lt, Bool, true, List, Option, None, Some, IfSome, Contains, if◌then◌else◌}
 use Rattle.nm_base.specs.declared.letter.LetterId.{LetterId}
 use Rattle.nm_base.specs.Channels.{has_channel}
 use Rattle.nm_base.specs.Message.{Message}
