@@ -5,7 +5,7 @@ use Rattle.processes.specs.Standing.{Standing}
 use Rattle.world.specs.Worlds.{Parts, StandsForAll}
 use Rattle.checkpoints.specs.declared.kept.TheConstants.{MOST_KEPT}
 
--- v stands for whatever w stands for, and has its processes' origins, its waiting letters, its mask and its number of events
+-- v stands for whatever w stands for: it has its processes' origins, waiting letters, mask and number of events
 pub record IsCopy {P M O : Type 0} (stands_for : P → Standing) (origin_of : P → O) (w v : Parts P M) : Type 0 where
   pub same : StandsForAll stands_for w v
   pub size : length v.processes ≡ length w.processes
@@ -34,7 +34,8 @@ abbrev pub thinned : {A : Type 0} → List A → List A
 thinned kept = if nat_lt (length kept) MOST_KEPT then kept else evens kept
 
 -- one more is kept, last: a copy of w
-pub record KeepsCopy {P M O : Type 0} (stands_for : P → Standing) (origin_of : P → O) (w : Parts P M) (before after : List (Parts P M)) : Type 0 where
+pub record KeepsCopy {P M O : Type 0} (stands_for : P → Standing) (origin_of : P → O) (w : Parts P M)
+    (before after : List (Parts P M)) : Type 0 where
   pub copy : Parts P M
   pub is_copy : IsCopy stands_for origin_of w copy
   pub is : after ≡ thinned before ++ copy ∷ []

@@ -1,6 +1,6 @@
 //! Worlds of one process that goes through lines, kept and gone back to.
 
-ghost use Rattle.std.specs.Prelude.{◌≡◌, true, replicate, IfOk};
+ghost use Rattle.std.specs.Prelude.{◌≡◌, ◌<◌, true, replicate, IfOk};
 ghost use Rattle.nm_base.specs.declared.kind.Kind.TheVariants.{Line};
 ghost use Rattle.checkpoints.specs.Kept.{AreBelow};
 

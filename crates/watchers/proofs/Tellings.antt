@@ -1,29 +1,66 @@
 -- Lemmas for a telling, step by step.
 use Rattle.std.proofs.Common.{◌≡◌, ℕ, zero, suc, ◌+◌, ◌<◌, ◌≤◌, Bool, true, false, List, [], ◌∷◌, ◌++◌, length, take, drop, map, slice_index_or, slice_set, refl, sym, ap, ◌∙◌, subst, arith}
+use Rattle.std.specs.Prelude.{All}
 use Rattle.std.specs.List.{remove}
+use Rattle.std.proofs.lemmas.List.Elements.{All-tail}
 use Rattle.std.proofs.lemmas.List.{append_assoc, append-nil, take_all, drop_all}
 use Rattle.event_list.specs.declared.Event.{Event}
-use Rattle.watchers.specs.Watched.{Watched, Told, told, nobody, noted, lacked}
+use Rattle.watchers.specs.Watched.{Watched, Told, told, told_all, nobody, noted, lacked}
 use Rattle.watchers.specs.private.Telling.{IsTelling}
 
--- one more watcher was told, and noted the event or lacked memory
-pub noted_one_more : {e : Event} {xs ys : List Watched} {n : ℕ} (w : Watched)
-    → Told e xs ys n → Told e (xs ++ w ∷ []) (ys ++ told w e ∷ []) n
+-- one more watcher was told, and noted the events or lacked memory
+pub noted_one_more : {E : List Event} {xs ys : List Watched} {n : ℕ} (w : Watched)
+    → Told E xs ys n → Told E (xs ++ w ∷ []) (ys ++ told_all w E ∷ []) n
 noted_one_more w nobody = noted nobody
 noted_one_more w (noted rest) = noted (noted_one_more w rest)
 noted_one_more w (lacked loose rest) = lacked loose (noted_one_more w rest)
 
-pub lacked_one_more : {e : Event} {xs ys : List Watched} {n : ℕ} (w : Watched)
-    → w.kind.steady ≡ false → Told e xs ys n → Told e (xs ++ w ∷ []) ys (1 + n)
+pub lacked_one_more : {E : List Event} {xs ys : List Watched} {n : ℕ} (w : Watched)
+    → w.kind.steady ≡ false → Told E xs ys n → Told E (xs ++ w ∷ []) ys (1 + n)
 lacked_one_more w is nobody = lacked is nobody
 lacked_one_more w is (noted rest) = noted (lacked_one_more w is rest)
 lacked_one_more w is (lacked loose rest) = lacked loose (lacked_one_more w is rest)
 
 -- as many as there were are left or out
-pub told_length : {e : Event} {xs ys : List Watched} {n : ℕ} → Told e xs ys n → n + length ys ≡ length xs
+pub told_length : {E : List Event} {xs ys : List Watched} {n : ℕ} → Told E xs ys n → n + length ys ≡ length xs
 told_length nobody = refl
 told_length (noted rest) = let a = told_length rest in omega arith
 told_length (lacked loose rest) = let a = told_length rest in omega arith
+
+-- no event changes a watcher's kind
+pub same_kind : (w : Watched) (E : List Event) → (told_all w E).kind ≡ w.kind
+same_kind w [] = refl
+same_kind w (e ∷ E) = same_kind (told w e) E
+
+pub told_further : (w : Watched) (E F : List Event) → told_all (told_all w E) F ≡ told_all w (E ++ F)
+told_further w [] F = refl
+told_further w (e ∷ E) F = told_further (told w e) E F
+
+-- who was told of no event is as before
+pub told_nothing : (ws : List Watched) → Told [] ws ws 0
+told_nothing [] = nobody
+told_nothing (w ∷ ws) = noted (told_nothing ws)
+
+-- told of some events and then of others, they were told of all
+pub told_on : {E F : List Event} {xs ys zs : List Watched} {n m : ℕ} → Told E xs ys n → Told F ys zs m → Told (E ++ F) xs zs (n + m)
+told_on nobody nobody = nobody
+told_on {E} {F} (noted {w} {before = xs} {out = n} rest) (noted {after = zs} {out = m} more) =
+    subst (λ v. Told (E ++ F) (w ∷ xs) (v ∷ zs) (n + m)) (sym (told_further w E F)) (noted {w = w} (told_on rest more))
+told_on {E} {F} (noted {w} {before = xs} {out = n} rest) (lacked {after = zs} {out = m} loose more) =
+    let put : 1 + (n + m) ≡ n + (1 + m) = omega arith in
+    subst (Told (E ++ F) (w ∷ xs) zs) put (lacked (ap (λ k. k.steady) (sym (same_kind w E)) ∙ loose) (told_on rest more))
+told_on {E} {F} {zs = zs} {m = m} (lacked {w} {before = xs} {out = n} loose rest) more =
+    let put : 1 + (n + m) ≡ 1 + n + m = omega arith in
+    subst (Told (E ++ F) (w ∷ xs) zs) put (lacked loose (told_on rest more))
+
+-- where all are steady each noted the events, and none is out
+pub all_noted : {E : List Event} {xs ys : List Watched} {n : ℕ} → Told E xs ys n → All (λ w. w.kind.steady ≡ true) xs
+    → (ys ≡ map (λ w. told_all w E) xs) × (n ≡ 0)
+all_noted nobody steady = (refl, refl)
+all_noted {E} (noted {w} {before = xs} rest) steady =
+    let same = all_noted rest (All-tail (λ w. w.kind.steady ≡ true) w xs steady) in
+    (ap (λ l. told_all w E ∷ l) same.0, same.1)
+all_noted (lacked {w} loose rest) steady = let no : false ≡ true = sym loose ∙ steady 0 w (omega arith) in absurd cc
 
 -- what a change at one place, seen through f, leaves before and behind it
 module _ {A B : Type 0} (f : A → B) where
@@ -72,10 +109,11 @@ module _ {B : Type 0} where
 pub begun : {e : Event} (ws : List Watched) → IsTelling e ws ws 0 0
 begun ws = record { seen = []; is = refl; told = nobody }
 
-pub ended : {e : Event} {old now : List Watched} {i n : ℕ} → IsTelling e old now i n → length now ≤ i → Told e old now n
+pub ended : {e : Event} {old now : List Watched} {i n : ℕ} → IsTelling e old now i n → length now ≤ i
+    → Told (e ∷ []) old now n
 ended {e} {old} {now} {i} {n} t le =
     let is = t.is ∙ ap (λ l. t.seen ++ l) (drop_all i now le) ∙ append-nil t.seen in
-    subst (λ l. Told e l now n) (sym is) (subst (λ l. Told e t.seen l n) (take_all i now le) t.told)
+    subst (λ l. Told (e ∷ []) l now n) (sym is) (subst (λ l. Told (e ∷ []) t.seen l n) (take_all i now le) t.told)
 
 module _ {A : Type 0} (f : A → Watched) {e : Event} {old : List Watched} {i n : ℕ} where
   -- the i-th noted the event, and y is what it is afterwards
@@ -91,7 +129,7 @@ module _ {A : Type 0} (f : A → Watched) {e : Event} {old : List Watched} {i n 
         seen = t.seen ++ w ∷ [];
         is = t.is ∙ ap (λ l. t.seen ++ l) rest 
             ∙ sym (append_assoc t.seen (w ∷ []) (drop (suc i) (map f (slice_set xs i y))));
-        told = subst (λ l. Told e (t.seen ++ w ∷ []) l n) front (noted_one_more w t.told);
+        told = subst (λ l. Told (e ∷ []) (t.seen ++ w ∷ []) l n) front (noted_one_more w t.told);
       }
 
   -- the i-th lacked memory, and was taken out
@@ -107,8 +145,8 @@ module _ {A : Type 0} (f : A → Watched) {e : Event} {old : List Watched} {i n 
       subst (λ l. IsTelling e old l i (n + 1)) (sym same) record {
         seen = t.seen ++ w ∷ [];
         is = t.is ∙ ap (λ l. t.seen ++ l) rest ∙ sym (append_assoc t.seen (w ∷ []) (drop i (remove (map f xs) i)));
-        told = subst (λ l. Told e (t.seen ++ w ∷ []) l (n + 1)) (sym (removed_before (map f xs) i))
-            (subst (λ k. Told e (t.seen ++ w ∷ []) (take i (map f xs)) k) on (lacked_one_more w loose t.told));
+        told = subst (λ l. Told (e ∷ []) (t.seen ++ w ∷ []) l (n + 1)) (sym (removed_before (map f xs) i))
+            (subst (λ k. Told (e ∷ []) (t.seen ++ w ∷ []) (take i (map f xs)) k) on (lacked_one_more w loose t.told));
       }
 
 -- what can't be steady isn't

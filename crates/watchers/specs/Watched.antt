@@ -21,11 +21,10 @@ told w e = record { kind = w.kind; notes = w.kind.noted w.notes e }
 abbrev pub told_all : Watched → List Event → Watched
 told_all w events = fold told w events
 
--- all were told of the event, in order: so many lacked memory, none of them steady, and are out; the others noted it
-pub data Told (e : Event) : List Watched → List Watched → ℕ → Type 0 where
-  nobody : Told e [] [] 0
-  noted : {w : Watched} {before after : List Watched} {dropped : ℕ} → Told e before after dropped
-      → Told e (w ∷ before) (told w e ∷ after) dropped
-  lacked : {w : Watched} {before after : List Watched} {dropped : ℕ} → w.kind.steady ≡ false
-      → Told e before after dropped
-      → Told e (w ∷ before) after (1 + dropped)
+-- all were told of the events, in order: so many lacked memory, none of them steady, and are out; the others noted all
+pub data Told (events : List Event) : List Watched → List Watched → ℕ → Type 0 where
+  nobody : Told events [] [] 0
+  noted : {w : Watched} {before after : List Watched} {out : ℕ} → Told events before after out
+      → Told events (w ∷ before) (told_all w events ∷ after) out
+  lacked : {w : Watched} {before after : List Watched} {out : ℕ} → w.kind.steady ≡ false → Told events before after out
+      → Told events (w ∷ before) after (1 + out)

@@ -1,6 +1,6 @@
 //! Lists of watchers.
 
-ghost use Rattle.std.specs.Prelude.{◌≡◌, true, false, map, nat_lt, length};
+ghost use Rattle.std.specs.Prelude.{◌≡◌, [], ◌∷◌, true, false, map, nat_lt, length};
 ghost use Rattle.std.specs.List.{remove};
 ghost use Rattle.watchers.specs.Watched.{Told, told};
 
@@ -10,7 +10,7 @@ use std::alloc::Global;
 
 /// Tells each.
 pub fn tell(alloc: Global, list: &mut Vec<Box<dyn Watcher>>, e: &Event) -> usize
-    ensures { Told e.now (map watched list.old.items) (map watched list.new.items) result }
+    ensures { Told (e.now ∷ []) (map watched list.old.items) (map watched list.new.items) result }
 {
     let mut dropped = 0;
     let mut i = 0;

@@ -1,5 +1,5 @@
 -- A telling on its way.
-use Rattle.std.specs.Prelude.{◌≡◌, ℕ, List, ◌++◌, take, drop}
+use Rattle.std.specs.Prelude.{◌≡◌, ℕ, List, [], ◌∷◌, ◌++◌, take, drop}
 use Rattle.event_list.specs.declared.Event.{Event}
 use Rattle.watchers.specs.Watched.{Watched, Told}
 
@@ -7,4 +7,4 @@ use Rattle.watchers.specs.Watched.{Watched, Told}
 pub record IsTelling (e : Event) (old now : List Watched) (i dropped : ℕ) : Type 0 where
   pub seen : List Watched
   pub is : old ≡ seen ++ drop i now
-  pub told : Told e seen (take i now) dropped
+  pub told : Told (e ∷ []) seen (take i now) dropped
