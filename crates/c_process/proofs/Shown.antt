@@ -44,7 +44,7 @@ module _ (p : Program) (m : Machine) (look : Look) (letters : List Message) (k :
       ∙ ap (look_of (status_of (next_of m))) (sym (state_made m a.events))
       ∙ sym (ap (λ o. look_of (played_of o).status (played_of o).state.events) (plays_after p m look letters k is a))
 
-  at_frames : (played_after p (machine_setting m).count (machine_setting m).me.no letters k).state.frames ≡ (state_of m []).frames
+  pub at_frames : (played_after p (machine_setting m).count (machine_setting m).me.no letters k).state.frames ≡ (state_of m []).frames
   at_frames =
       ap (λ o. (played_of o).state.frames) (plays_after p m look letters k is a) ∙ shown_frames (machine_setting m).code (machine_setting m).count (machine_setting m).me.no m.execution m.begun a.events
 

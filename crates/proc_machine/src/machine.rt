@@ -99,6 +99,13 @@ impl<'c> Machine<'c> {
         self.execution.output.as_slice()
     }
 
+    /// How many words the globals and the live frames have.
+    pub fn words(&self) -> u32
+        ensures { result ≡ length (state_of self.now []).words }
+    {
+        self.execution.words.len() as u32
+    }
+
     /// A word of the globals or of a live frame, by its place.
     pub fn word(&self, place: u32) -> u32
         requires { place < length (state_of self.now []).words }
