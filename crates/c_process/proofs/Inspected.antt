@@ -6,8 +6,12 @@ use Rattle.nm_base.specs.declared.letter.ProcNo.{ProcNo}
 use Rattle.nm_base.specs.Message.{Message}
 use Rattle.nm_base.specs.Scripts.{Script}
 use Rattle.c_tree.specs.declared.program.Program.{Program}
+use Rattle.c_tree.specs.declared.program.Target.{Target}
+use Rattle.c_tree.specs.declared.program.Target.TheVariants.{Global as AGlobal, Slot as ASlot}
+use Rattle.c_tree.specs.State.{State}
+use Rattle.c_tree.specs.Storage.{place_of, array_of}
 use Rattle.c_tree.specs.Play.{PlaySetting, played_of, next, run_of}
-use Rattle.c_tree.specs.NameLookup.{seen_of, in_globals, value_named}
+use Rattle.c_tree.specs.NameLookup.{Variable, seen_at, seen_of, top_slots, variable_named, in_globals, value_named}
 use Rattle.stack_code.specs.declared.seek.CodePlace.{CodePlace}
 use Rattle.stack_code.specs.declared.seek.Found.{Found}
 use Rattle.stack_code.specs.Code.{Code}
@@ -33,15 +37,26 @@ use Rattle.c_process.proofs.Shown.{at_frames}
 use Rattle.c_process.proofs.Values.{global_is, frame_is, frameless_is}
 use Rattle.c_process.proofs.Frames.{by_machine, frames_same, machine_length, machine_inner, machine_outer}
 
+-- the events are no part of what is seen
+events_apart : (set : PlaySetting) (s : State) (events : List Kind) (v : Option Variable) (index : Option ℕ) → seen_of set (record s { events = events }) v index ≡ seen_of set s v index
+events_apart set s events None index = refl
+events_apart set s events (Some x) index = by x.what
+  where
+    by : (t : Target)
+        → seen_at s.words (place_of set.globals (top_slots set.functions s.frames) t (record s { events = events })) (array_of set.globals (top_slots set.functions s.frames) t (record s { events = events })) x.of index
+        ≡ seen_at s.words (place_of set.globals (top_slots set.functions s.frames) t s) (array_of set.globals (top_slots set.functions s.frames) t s) x.of index
+    by (AGlobal i) = refl
+    by (ASlot i) = refl
+
 module _ (set : PlaySetting) (name : List ℕ) (index : Option ℕ) (code : Code) (count me : ℕ) (e : Execution) where
   shown_value : (begun : Bool) (events : List Kind) → value_named set (shown_state code count me e begun events) name index ≡ value_named set (shown_state code count me e begun []) name index
-  shown_value true events = refl
-  shown_value false events = refl
+  shown_value true events = events_apart set (shown_state code count me e true []) events (variable_named set (shown_state code count me e true []) name) index
+  shown_value false events = events_apart set (shown_state code count me e false []) events (variable_named set (shown_state code count me e false []) name) index
 
   shown_global : (begun : Bool) (events : List Kind) → seen_of set (shown_state code count me e begun events) (in_globals name 0 set.globals) index
       ≡ seen_of set (shown_state code count me e begun []) (in_globals name 0 set.globals) index
-  shown_global true events = refl
-  shown_global false events = refl
+  shown_global true events = events_apart set (shown_state code count me e true []) events (in_globals name 0 set.globals) index
+  shown_global false events = events_apart set (shown_state code count me e false []) events (in_globals name 0 set.globals) index
 
 module _ (p : Program) (m : Machine) (look : Look) (letters : List Message) (k : ℕ) (is : IsCodeOf p (machine_setting m).code) (a : IsAfter m look letters k) where
   abbrev set : PlaySetting
@@ -79,11 +94,8 @@ module _ (p : Program) (m : Machine) (look : Look) (letters : List Message) (k :
   pub at_next_line : next_line_after p count me letters k ≡ line_before (next_of m)
   at_next_line =
       let run = ap (run_of set letters) a.count ∙ plays_after p m look letters k is a in
-      ap (λ j. line_of_next j) (sym a.count)
+      ap (λ j. next_line_after p count me letters j) (sym a.count)
       ∙ next_line p (machine_setting m) (is.stands count me) letters a.events (state_of m a.events) (next_of m) run (makes_of m letters a.events a.stands)
-    where
-      abbrev line_of_next : ℕ → Option ℕ
-      line_of_next j = next_line_after p count me letters j
 
   pub at_all_frames : frames_after p count me letters k ≡ by_machine (line_after p count me letters k) (frames_of m)
   at_all_frames =

@@ -87,20 +87,20 @@ module _ (globals : List Global) (slots : List Slot) where
   blocks_known name (b ∷ more) = known_or (in_block slots name b) (in_blocks slots name more) (block_known name b) (blocks_known name more)
 
   -- these are the slots from a number on
-  abbrev From : ℕ → List Slot → Type 0
-  From number xs = (k : ℕ) (x : Slot) → slice_get xs k ≡ Some x → slice_get slots (number + k) ≡ Some x
+  abbrev SlotsFrom : ℕ → List Slot → Type 0
+  SlotsFrom number xs = (k : ℕ) (x : Slot) → slice_get xs k ≡ Some x → slice_get slots (number + k) ≡ Some x
 
-  from_later : (number : ℕ) (x : Slot) (xs : List Slot) → From number (x ∷ xs) → From (number + 1) xs
-  from_later number x xs h k y is =
+  slots_later : (number : ℕ) (x : Slot) (xs : List Slot) → SlotsFrom number (x ∷ xs) → SlotsFrom (number + 1) xs
+  slots_later number x xs h k y is =
       let same : number + 1 + k ≡ number + suc k = omega arith in
       ap (slice_get slots) same ∙ h (suc k) y is
 
-  pub params_known : (name : List ℕ) (number : ℕ) (xs : List Slot) → From number xs → IsKnown (in_params name number xs)
+  pub params_known : (name : List ℕ) (number : ℕ) (xs : List Slot) → SlotsFrom number xs → IsKnown (in_params name number xs)
   params_known name number [] h = tt
   params_known name number (x ∷ xs) h =
       let here : number ≡ number + 0 = omega arith in
       known_or (slot_if name number (Some x)) (in_params name (number + 1) xs) (slot_known name number (Some x) (ap (slice_get slots) here ∙ h 0 x refl))
-      (params_known name (number + 1) xs (from_later number x xs h))
+      (params_known name (number + 1) xs (slots_later number x xs h))
 
 left : (xs ys : List Slot) (k : ℕ) (x : Slot) → slice_get xs k ≡ Some x → slice_get (xs ++ ys) (0 + k) ≡ Some x
 left [] ys k x is = cc

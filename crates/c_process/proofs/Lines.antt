@@ -43,7 +43,7 @@ made_left (Stopped status s) events p h = h.none_left
 
 -- what is read of the script's next is read of the pause before which the machine stands
 module _ {A : Type 0} (of : Next → A) (at : Pause → A) (agrees : (made : Kind) (n : Pause) → pause_of made ≡ n → of (Goes made) ≡ at n)
-    (waits : (set : ℕ) → of (scripts.Wants set) ≡ at (pause.Receive set)) (over : of scripts.Over ≡ at pause.Done) where
+    (waits : (channels : ℕ) → of (scripts.Wants channels) ≡ at (pause.Receive channels)) (over : of scripts.Over ≡ at pause.Done) where
   module _ (p : Program) (m : MachineSetting) (stands : CodeStandsFor (process_of p m) m.code) (inputs : List Message) (events : List Kind) (s : State) where
     abbrev set : PlaySetting
     set = process_of p m
@@ -66,7 +66,7 @@ module _ {A : Type 0} (of : Next → A) (at : Pause → A) (agrees : (made : Kin
 pub line_next : (p : Program) (m : MachineSetting) (stands : CodeStandsFor (process_of p m) m.code) (inputs : List Message) (events : List Kind) (s : State) (frames : List Frame) (without : ℕ) (n : Pause)
     → run_of (process_of p m) inputs (length events) ≡ Stopped (status_of n) s → MakesNext m inputs events n → line_of (next (process_of p m) inputs (length events)) frames without ≡ line_at n frames without
 line_next p m stands inputs events s frames without n r h =
-    read_next (λ x. line_of x frames without) (λ y. line_at y frames without) (λ made y e. at_event made y frames without e) (λ set. refl) refl p m stands inputs events s n r h
+    read_next (λ x. line_of x frames without) (λ y. line_at y frames without) (λ made y e. at_event made y frames without e) (λ _. refl) refl p m stands inputs events s n r h
 
 -- ---- a Line that comes
 
@@ -77,14 +77,14 @@ line_before n = None
 to_come : (made : Kind) (n : Pause) → pause_of made ≡ n → line_to_come (Goes made) ≡ line_before n
 to_come (kind.Line line) n e = ap line_before e
 to_come (kind.Sent number dest chan len words) n e = ap line_before e
-to_come (kind.Accepted set id) n e = ap line_before e
+to_come (kind.Accepted channels id) n e = ap line_before e
 to_come (kind.Printed bytes) n e = ap line_before e
 to_come (kind.Ended value) n e = ap line_before e
 to_come (kind.Faulted cause) n e = ap line_before e
 
 pub next_line : (p : Program) (m : MachineSetting) (stands : CodeStandsFor (process_of p m) m.code) (inputs : List Message) (events : List Kind) (s : State) (n : Pause)
     → run_of (process_of p m) inputs (length events) ≡ Stopped (status_of n) s → MakesNext m inputs events n → line_to_come (next (process_of p m) inputs (length events)) ≡ line_before n
-next_line p m stands inputs events s n r h = read_next line_to_come line_before to_come (λ set. refl) refl p m stands inputs events s n r h
+next_line p m stands inputs events s n r h = read_next line_to_come line_before to_come (λ _. refl) refl p m stands inputs events s n r h
 
 pub no_line : (n : Pause) → ((line : ℕ) → n ≡ pause.Line line → ⊥) → line_before n ≡ None
 no_line (pause.Line line) not = absurd (not line refl)

@@ -1,6 +1,6 @@
 //! What a debugger reads of a process: it takes no memory, and changes nothing.
 
-ghost use Rattle.std.specs.Prelude.{◌≡◌, ◌<◌, ◌^◌, ℕ, List, [], slice_get, slice_index, Some};
+ghost use Rattle.std.specs.Prelude.{◌≡◌, ◌<◌, ◌^◌, ℕ, List, [], length, slice_get, slice_index, Some, IfSome};
 ghost use Rattle.nm_base.specs.Message.{Message};
 ghost use Rattle.nm_base.specs.Scripts.{Script};
 ghost use Rattle.c_tree.specs.declared.program.Program.{Program};
