@@ -1,7 +1,6 @@
 -- The frames that a machine shows are those of its state.
-use Rattle.std.proofs.Common.{◌≡◌, ℕ, zero, suc, Bool, true, false, List, [], ◌∷◌, map, length, Option, Some, refl, sym, ap, ◌∙◌}
+use Rattle.std.proofs.Common.{◌≡◌, ℕ, zero, suc, Bool, true, false, List, [], ◌∷◌, map, length, Some, refl, ap}
 use Rattle.std.specs.Prelude.{slice_get}
-use Rattle.c_tree.specs.State.{Frame}
 use Rattle.stack_code.specs.Code.{Code}
 use Rattle.stack_code.specs.Machine.{with_blocks, later_blocks, outer_blocks}
 use Rattle.proc_machine.specs.declared.callers.Caller.{Caller as KeptCaller}

@@ -10,9 +10,8 @@ use Rattle.c_tree.specs.declared.program.Target.{Target}
 use Rattle.c_tree.specs.declared.program.Target.TheVariants.{Global as AGlobal, Slot as ASlot}
 use Rattle.c_tree.specs.State.{State}
 use Rattle.c_tree.specs.Storage.{place_of, array_of}
-use Rattle.c_tree.specs.Play.{PlaySetting, played_of, next, run_of}
+use Rattle.c_tree.specs.Play.{PlaySetting, played_of, run_of}
 use Rattle.c_tree.specs.NameLookup.{Variable, seen_at, seen_of, top_slots, variable_named, in_globals, value_named}
-use Rattle.stack_code.specs.declared.seek.CodePlace.{CodePlace}
 use Rattle.stack_code.specs.declared.seek.Found.{Found}
 use Rattle.stack_code.specs.Code.{Code}
 use Rattle.stack_code.specs.Seek.{IsPlaceIn, found}
@@ -24,7 +23,6 @@ use Rattle.proc_machine.specs.declared.machine.MachineFrame.{MachineFrame}
 use Rattle.proc_machine.specs.Machines.{machine_setting, next_of, state_of, frames_of}
 use Rattle.proc_machine.specs.Standing.{shown_state}
 use Rattle.proc_machine.proofs.Pending.{makes_of}
-use Rattle.c_process.specs.declared.answers.FrameSeen.{FrameSeen}
 use Rattle.c_process.specs.declared.process.CProc.{CProc}
 use Rattle.c_process.specs.Standing.{IsCodeOf}
 use Rattle.c_process.specs.Shown.{line_after}
@@ -102,58 +100,58 @@ module _ (p : Program) (m : Machine) (look : Look) (letters : List Message) (k :
       ap (frames_at (line_after p count me letters k)) (at_frames p m look letters k is a)
       ∙ sym (frames_same code count me m.execution m.begun (line_after p count me letters k))
 
-module _ (x : CProc) (p : Program) (s : Script) (letters : List Message) (k : ℕ) (is : IsCodeOf p (seen_code x.code.now)) (h : Follows x.machine x.look s letters k × (k ≡ x.count)) where
-  abbrev runs : IsCodeOf p (machine_setting x.machine).code
+module _ (x : CProc) (p : Program) (s : Script) (letters : List Message) (k : ℕ) (is : IsCodeOf p (seen_code x.code.now)) (h : Follows x.machine.value x.look s letters k × (k ≡ x.count)) where
+  abbrev runs : IsCodeOf p (machine_setting x.machine.value).code
   runs = subst (IsCodeOf p) (sym x.runs) is
 
   abbrev n : ℕ
-  n = (machine_setting x.machine).count
+  n = (machine_setting x.machine.value).count
 
   module _ (name : List ℕ) (index : Option ℕ) where
     abbrev words : List ℕ
-    words = (state_of x.machine []).words
+    words = (state_of x.machine.value []).words
 
     pub global_read : (base : ℕ) (o : Option Found) → o ≡ found (seen_code x.code.now) None name → answered (seen_by words base o index) ≡ answered (global_after p n x.me.no letters k name index)
     global_read base o same =
         ap (λ o. answered (seen_by words base o index)) (same ∙ ap (λ c. found c None name) (sym x.runs))
-        ∙ ap answered (at_global p x.machine x.look letters k runs h.0.after name index base)
+        ∙ ap answered (at_global p x.machine.value x.look letters k runs h.0.after name index base)
         ∙ ap (λ (me : ProcNo). answered (global_after p n me.no letters k name index)) x.named
 
-    pub value_read : (f : MachineFrame) → slice_get (frames_of x.machine) 0 ≡ Some f → (o : Option Found) → o ≡ found (seen_code x.code.now) (Some f.at) name
+    pub value_read : (f : MachineFrame) → slice_get (frames_of x.machine.value) 0 ≡ Some f → (o : Option Found) → o ≡ found (seen_code x.code.now) (Some f.at) name
         → answered (seen_by words f.base o index) ≡ answered (value_after p n x.me.no letters k name index)
     value_read f first o same =
         ap (λ o. answered (seen_by words f.base o index)) (same ∙ ap (λ c. found c (Some f.at) name) (sym x.runs))
-        ∙ ap answered (at_frame p x.machine x.look letters k runs h.0.after name index f first)
+        ∙ ap answered (at_frame p x.machine.value x.look letters k runs h.0.after name index f first)
         ∙ ap (λ (me : ProcNo). answered (value_after p n me.no letters k name index)) x.named
 
-    pub frameless_read : length (frames_of x.machine) ≡ 0 → answered (global_after p n x.me.no letters k name index) ≡ answered (value_after p n x.me.no letters k name index)
+    pub frameless_read : length (frames_of x.machine.value) ≡ 0 → answered (global_after p n x.me.no letters k name index) ≡ answered (value_after p n x.me.no letters k name index)
     frameless_read none =
         ap (λ (me : ProcNo). answered (global_after p n me.no letters k name index)) (sym x.named)
-        ∙ ap answered (at_none p x.machine x.look letters k runs h.0.after name index none)
+        ∙ ap answered (at_none p x.machine.value x.look letters k runs h.0.after name index none)
         ∙ ap (λ (me : ProcNo). answered (value_after p n me.no letters k name index)) x.named
 
-  pub next_line_read : line_before (next_of x.machine) ≡ next_line_after p n x.me.no letters k
-  next_line_read = sym (at_next_line p x.machine x.look letters k runs h.0.after) ∙ ap (λ (me : ProcNo). next_line_after p n me.no letters k) x.named
+  pub next_line_read : line_before (next_of x.machine.value) ≡ next_line_after p n x.me.no letters k
+  next_line_read = sym (at_next_line p x.machine.value x.look letters k runs h.0.after) ∙ ap (λ (me : ProcNo). next_line_after p n me.no letters k) x.named
 
-  frames_read : frames_after p n x.me.no letters k ≡ by_machine (line_after p n x.me.no letters k) (frames_of x.machine)
+  frames_read : frames_after p n x.me.no letters k ≡ by_machine (line_after p n x.me.no letters k) (frames_of x.machine.value)
   frames_read =
       ap (λ (me : ProcNo). frames_after p n me.no letters k) (sym x.named)
-      ∙ at_all_frames p x.machine x.look letters k runs h.0.after
-      ∙ ap (λ (me : ProcNo). by_machine (line_after p n me.no letters k) (frames_of x.machine)) x.named
+      ∙ at_all_frames p x.machine.value x.look letters k runs h.0.after
+      ∙ ap (λ (me : ProcNo). by_machine (line_after p n me.no letters k) (frames_of x.machine.value)) x.named
 
-  pub count_read : length (frames_after p n x.me.no letters k) ≡ length (frames_of x.machine)
-  count_read = ap length frames_read ∙ machine_length (line_after p n x.me.no letters k) (frames_of x.machine)
+  pub count_read : length (frames_after p n x.me.no letters k) ≡ length (frames_of x.machine.value)
+  count_read = ap length frames_read ∙ machine_length (line_after p n x.me.no letters k) (frames_of x.machine.value)
 
-  pub inner_read : (f : MachineFrame) (line : ℕ) → slice_get (frames_of x.machine) 0 ≡ Some f → line ≡ line_after p n x.me.no letters k
+  pub inner_read : (f : MachineFrame) (line : ℕ) → slice_get (frames_of x.machine.value) 0 ≡ Some f → line ≡ line_after p n x.me.no letters k
       → slice_get (frames_after p n x.me.no letters k) 0 ≡ Some (record { function = f.at.function; line = line })
   inner_read f line first same =
       ap (λ l. slice_get l 0) frames_read
-      ∙ machine_inner (line_after p n x.me.no letters k) (frames_of x.machine) f first
+      ∙ machine_inner (line_after p n x.me.no letters k) (frames_of x.machine.value) f first
       ∙ ap (λ l. Some (record { function = f.at.function; line = l })) (sym same)
 
-  pub outer_read : (i : ℕ) (f : MachineFrame) → (i ≡ 0 → ⊥) → slice_get (frames_of x.machine) i ≡ Some f
+  pub outer_read : (i : ℕ) (f : MachineFrame) → (i ≡ 0 → ⊥) → slice_get (frames_of x.machine.value) i ≡ Some f
       → slice_get (frames_after p n x.me.no letters k) i ≡ Some (record { function = f.at.function; line = f.line })
-  outer_read i f not at = ap (λ l. slice_get l i) frames_read ∙ machine_outer (line_after p n x.me.no letters k) (frames_of x.machine) i f not at
+  outer_read i f not at = ap (λ l. slice_get l i) frames_read ∙ machine_outer (line_after p n x.me.no letters k) (frames_of x.machine.value) i f not at
 
-pub place_read : (x : CProc) (f : MachineFrame) → IsPlaceIn (machine_setting x.machine).code (Some f.at) → IsPlaceIn (seen_code x.code.now) (Some f.at)
+pub place_read : (x : CProc) (f : MachineFrame) → IsPlaceIn (machine_setting x.machine.value).code (Some f.at) → IsPlaceIn (seen_code x.code.now) (Some f.at)
 place_read x f h = subst (λ c. IsPlaceIn c (Some f.at)) x.runs h

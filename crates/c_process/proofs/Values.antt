@@ -1,5 +1,5 @@
 -- What is shown of a variable that the code finds is what the program says.
-use Rattle.std.proofs.Common.{◌≡◌, ℕ, zero, suc, ◌+◌, Bool, true, false, List, [], ◌∷◌, length, Option, Some, None, refl, sym, ap, ◌∙◌, subst, arith}
+use Rattle.std.proofs.Common.{◌≡◌, ℕ, ◌+◌, Bool, true, false, List, [], ◌∷◌, length, Option, Some, None, refl, sym, ap, ◌∙◌, subst, arith}
 use Rattle.std.specs.Prelude.{slice_get, slice_index, option_map, if◌then◌else◌}
 use Rattle.nm_base.specs.declared.operator.Ctype.{Ctype}
 use Rattle.c_tree.specs.declared.program.Global.{Global}
@@ -9,12 +9,9 @@ use Rattle.c_tree.specs.declared.program.Target.{Target}
 use Rattle.c_tree.specs.declared.program.Target.TheVariants.{Global as AGlobal, Slot as ASlot}
 use Rattle.c_tree.specs.State.{Frame, State}
 use Rattle.c_tree.specs.Storage.{words_of_global, words_of_slot, words_before, base_of, place_of, array_of, array_of_global, array_of_slot}
-use Rattle.c_tree.specs.NameLookup.{Variable, Seen, seen_at, seen_of, top_slots, or_else, in_globals, in_function, value_named, slots_of_function}
+use Rattle.c_tree.specs.NameLookup.{Variable, seen_at, seen_of, top_slots, or_else, in_globals, in_function, value_named}
 use Rattle.c_tree.specs.Play.{PlaySetting, play_setting}
-use Rattle.stack_code.specs.declared.seek.CodePlace.{CodePlace}
-use Rattle.stack_code.specs.declared.seek.Home.{Home}
 use Rattle.stack_code.specs.declared.seek.Home.TheVariants as home
-use Rattle.stack_code.specs.declared.seek.Found.{Found}
 use Rattle.stack_code.specs.Code.{Code, entered_at}
 use Rattle.stack_code.specs.Seek.{found}
 use Rattle.c_compile.specs.KeptNames.{KeepsNames, as_global, as_slot, found_of, found_by}

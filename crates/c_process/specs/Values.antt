@@ -39,7 +39,7 @@ frames_at line (f ∷ fs) = record { function = f.function; line = line } ∷ ma
 
 -- how many frames a process shows
 abbrev pub frame_number : CProc → ℕ
-frame_number x = length (frames_of x.machine)
+frame_number x = length (frames_of x.machine.value)
 
 module _ (p : Program) (n me : ℕ) (letters : List Message) (k : ℕ) where
   abbrev pub next_line_after : Option ℕ

@@ -101,7 +101,7 @@ impl<'c> CProc<'c> {
 
     /// The value of a variable that was found, where the innermost frame's words begin at this place.
     fn show(&self, found: Found, base: u32, index: Option<u32>) -> Result<Seen, LookFault>
-        ensures { result ≡ answered (seen_found (state_of self.now.machine []).words base found index) }
+        ensures { result ≡ answered (seen_found (state_of self.now.machine.value []).words base found index) }
     {
         let place = place_in(found, base);
         match self.array_at(found, place) {
@@ -113,7 +113,7 @@ impl<'c> CProc<'c> {
     /// The place of an array's first word and its length, if the variable at this place is one.
     fn array_at(&self, found: Found, place: u64) -> Option<(u64, u32)>
         requires { place < 2 ^ 33 }
-        ensures same { result ≡ array_found (state_of self.now.machine []).words found place }
+        ensures same { result ≡ array_found (state_of self.now.machine.value []).words found place }
         ensures small { IfSome result (λ a. a.0 < 2 ^ 33) }
     {
         match found.home {
@@ -126,7 +126,7 @@ impl<'c> CProc<'c> {
     }
 
     fn scalar(&self, place: u64, of: Ctype, index: Option<u32>) -> Result<Seen, LookFault>
-        ensures { result ≡ answered (seen_scalar (state_of self.now.machine []).words place of index) }
+        ensures { result ≡ answered (seen_scalar (state_of self.now.machine.value []).words place of index) }
     {
         match index {
             None => Ok(Seen {
@@ -145,7 +145,7 @@ impl<'c> CProc<'c> {
         index: Option<u32>,
     ) -> Result<Seen, LookFault>
         requires { first < 2 ^ 33 }
-        ensures { result ≡ answered (seen_array (state_of self.now.machine []).words first length of index) }
+        ensures { result ≡ answered (seen_array (state_of self.now.machine.value []).words first length of index) }
     {
         match index {
             None => Err(LookFault::NeedsIndex),
@@ -164,7 +164,7 @@ impl<'c> CProc<'c> {
 
     /// The word at a place, and 0 past the last.
     fn word(&self, place: u64) -> u32
-        ensures { result ≡ slice_index (state_of self.now.machine []).words place }
+        ensures { result ≡ slice_index (state_of self.now.machine.value []).words place }
     {
         if place < u64::from(self.machine.words()) {
             self.machine.word(place as u32)

@@ -1,9 +1,9 @@
 -- The value of a variable that was found in the code.
-use Rattle.std.specs.Prelude.{ℕ, ◌+◌, List, Option, Some, None, option_map, slice_index}
+use Rattle.std.specs.Prelude.{ℕ, ◌+◌, List, Option, Some, None, slice_index}
 use Rattle.c_tree.specs.NameLookup.{Seen, NoName, seen_at}
 use Rattle.stack_code.specs.declared.seek.Found.{Found}
 use Rattle.stack_code.specs.declared.seek.Home.{Home}
-use Rattle.stack_code.specs.declared.seek.Home.TheVariants.{Global, Local, ArrayParam}
+use Rattle.stack_code.specs.declared.seek.Home.TheVariants.{Global, ArrayParam}
 
 abbrev pub place_by : Home → ℕ → ℕ → ℕ
 place_by Global base slot = slot
