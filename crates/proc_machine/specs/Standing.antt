@@ -30,7 +30,8 @@ pub record EndsThere (code : Code) (count me : ℕ) (e : Execution) (inputs : Li
   pub made : events ≡ last ∷ before
   pub steps : ℕ
   pub comes : run_code code count me inputs (length before) steps ≡ Done (control_of e) (data_with e before 0)
-  pub ends : step code count me (control_of e) (data_with e before 1) ≡ Stopped Over (shown_state code count me e true events)
+  pub ends : step code count me (control_of e) (data_with e before 1)
+      ≡ Stopped Over (shown_state code count me e true events)
 
 -- what is over stays where it ended
 abbrev pub StaysThere : Code → ℕ → ℕ → Execution → Bool → Pause → List Message → List Kind → Type 0
