@@ -3,8 +3,9 @@ use Rattle.std.proofs.Common.{◌≡◌, ℕ, zero, suc, List, [], ◌∷◌, ma
 use Rattle.std.specs.Prelude.{slice_get, option_map, unwrap_or}
 use Rattle.c_tree.specs.declared.program.Function.{Function}
 use Rattle.stack_code.specs.Code.{FunctionCode}
-use Rattle.c_compile.specs.StmtCode.{function_code}
+use Rattle.c_compile.specs.StmtCode.{function_code, program_code}
 use Rattle.c_compile.proofs.Checked.{checked_stands}
+use Rattle.c_compile.proofs.Names.{keeps_names}
 use Rattle.c_process.specs.Compiled.{CompiledIsCode}
 
 module _ (code_of : Function → FunctionCode) (lines : (f : Function) → (code_of f).line ≡ f.line) where
@@ -17,4 +18,5 @@ pub compiled_is_code : CompiledIsCode
 compiled_is_code p = record {
   stands = λ count me. checked_stands p.globals p.functions p.texts p.main count me p.checked;
   main = ap (λ o. unwrap_or o 0) (line_of_code (function_code p.globals p.functions p.texts) (λ f. refl) p.functions p.main);
+  names = keeps_names p (program_code p.globals p.functions p.texts p.main) refl;
 }

@@ -5,3 +5,7 @@ pub mod Events
 pub mod Standing
 pub mod Lines
 pub mod Shown
+pub mod Known
+pub mod Values
+pub mod Frames
+pub mod Inspected

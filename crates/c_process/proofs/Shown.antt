@@ -44,7 +44,7 @@ module _ (p : Program) (m : Machine) (look : Look) (letters : List Message) (k :
       ∙ ap (look_of (status_of (next_of m))) (sym (state_made m a.events))
       ∙ sym (ap (λ o. look_of (played_of o).status (played_of o).state.events) (plays_after p m look letters k is a))
 
-  at_frames : (played_after p (machine_setting m).count (machine_setting m).me.no letters k).state.frames ≡ (state_of m []).frames
+  pub at_frames : (played_after p (machine_setting m).count (machine_setting m).me.no letters k).state.frames ≡ (state_of m []).frames
   at_frames =
       ap (λ o. (played_of o).state.frames) (plays_after p m look letters k is a) ∙ shown_frames (machine_setting m).code (machine_setting m).count (machine_setting m).me.no m.execution m.begun a.events
 
@@ -60,19 +60,19 @@ module _ (p : Program) (m : Machine) (look : Look) (letters : List Message) (k :
       ∙ line_next p set (is.stands set.count set.me.no) letters a.events (state_of m a.events) (state_of m []).frames (main_line p) (next_of m) run (makes_of m letters a.events a.stands)
       ∙ ap (λ n. line_at (next_of m) (state_of m []).frames n) (sym is.main)
 
-module _ (x : CProc) (p : Program) (s : Script) (letters : List Message) (k : ℕ) (is : IsCodeOf p (seen_code x.code.now)) (h : Follows x.machine x.look s letters k × (k ≡ x.count)) where
-  runs : IsCodeOf p (machine_setting x.machine).code
+module _ (x : CProc) (p : Program) (s : Script) (letters : List Message) (k : ℕ) (is : IsCodeOf p (seen_code x.code.now)) (h : Follows x.machine.value x.look s letters k × (k ≡ x.count)) where
+  runs : IsCodeOf p (machine_setting x.machine.value).code
   runs = subst (IsCodeOf p) (sym x.runs) is
 
-  pub output_shown : (state_of x.machine []).output ≡ output_after p (machine_setting x.machine).count x.me.no letters k
+  pub output_shown : (state_of x.machine.value []).output ≡ output_after p (machine_setting x.machine.value).count x.me.no letters k
   output_shown =
-      sym (at_output p x.machine x.look letters k runs h.0.after) ∙ ap (λ (me : ProcNo). output_after p (machine_setting x.machine).count me.no letters k) x.named
+      sym (at_output p x.machine.value x.look letters k runs h.0.after) ∙ ap (λ (me : ProcNo). output_after p (machine_setting x.machine.value).count me.no letters k) x.named
 
-  pub look_shown : x.look ≡ look_after p (machine_setting x.machine).count x.me.no letters k
-  look_shown = at_look p x.machine x.look letters k runs h.0.after ∙ ap (λ (me : ProcNo). look_after p (machine_setting x.machine).count me.no letters k) x.named
+  pub look_shown : x.look ≡ look_after p (machine_setting x.machine.value).count x.me.no letters k
+  look_shown = at_look p x.machine.value x.look letters k runs h.0.after ∙ ap (λ (me : ProcNo). look_after p (machine_setting x.machine.value).count me.no letters k) x.named
 
-  pub line_shown : line_at (next_of x.machine) (state_of x.machine []).frames (main_line_of (seen_code x.code.now)) ≡ line_after p (machine_setting x.machine).count x.me.no letters k
+  pub line_shown : line_at (next_of x.machine.value) (state_of x.machine.value []).frames (main_line_of (seen_code x.code.now)) ≡ line_after p (machine_setting x.machine.value).count x.me.no letters k
   line_shown =
-      ap (λ c. line_at (next_of x.machine) (state_of x.machine []).frames (main_line_of c)) (sym x.runs)
-      ∙ sym (at_line p x.machine x.look letters k runs h.0.after)
-      ∙ ap (λ (me : ProcNo). line_after p (machine_setting x.machine).count me.no letters k) x.named
+      ap (λ c. line_at (next_of x.machine.value) (state_of x.machine.value []).frames (main_line_of c)) (sym x.runs)
+      ∙ sym (at_line p x.machine.value x.look letters k runs h.0.after)
+      ∙ ap (λ (me : ProcNo). line_after p (machine_setting x.machine.value).count me.no letters k) x.named

@@ -19,5 +19,5 @@ CompiledIsCode = (p : Program) → IsCodeOf p (program_code p.globals p.function
 abbrev pub LooksArePlayed : Type 0
 LooksArePlayed =
     (x : CProc) (p : Program) (s : Script) (letters : List Message) (k : ℕ)
-    → IsCodeOf p (seen_code x.code.now) → Follows x.machine x.look s letters k × (k ≡ x.count)
-    → x.look ≡ look_after p (machine_setting x.machine).count x.me.no letters k
+    → IsCodeOf p (seen_code x.code.now) → Follows x.machine.value x.look s letters k × (k ≡ x.count)
+    → x.look ≡ look_after p (machine_setting x.machine.value).count x.me.no letters k

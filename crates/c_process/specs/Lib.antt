@@ -1,5 +1,6 @@
 pub mod Standing
 pub mod Shown
+pub mod Values
 pub mod Following
 pub mod Compiled
 pub mod private

@@ -25,14 +25,14 @@ use std::alloc::Global;
 #[derive(Drop)]
 pub struct CProc<'c> {
     pub(crate) code: &'c Code,
-    pub(crate) machine: Machine<'c>,
+    pub(crate) machine: Box<Machine<'c>>,
     pub(crate) me: ProcNo,
     pub(crate) count: u32,
     pub(crate) look: Look,
-    pub ghost runs: { (machine_setting machine).code ≡ seen_code code.now },
-    pub ghost named: { (machine_setting machine).me ≡ me },
-    pub ghost few: { letters_sent machine ≤ count },
-    pub ghost seen: { IsTrue (looks_at look (next_of machine)) },
+    pub ghost runs: { (machine_setting machine.value).code ≡ seen_code code.now },
+    pub ghost named: { (machine_setting machine.value).me ≡ me },
+    pub ghost few: { letters_sent machine.value ≤ count },
+    pub ghost seen: { IsTrue (looks_at look (next_of machine.value)) },
 }
 
 impl<'c> CProc<'c> {
@@ -47,7 +47,7 @@ impl<'c> CProc<'c> {
         ensures origin { IfOk result (λ x. ⟦<CProc<'c> as Proc>⟧.origin_of x ≡ (seen_code code.now, n)) }
         ensures count { IfOk result (λ x. ⟦<CProc<'c> as Proc>⟧.count_of x ≡ 0) }
     {
-        let machine = Machine::new(alloc, code, me, n)?;
+        let machine = boxed(alloc, Machine::new(alloc, code, me, n)?)?;
         let look = look_at(machine.pending(), Look::Ended { value: 0 });
         Ok(CProc {
             code,
@@ -86,7 +86,7 @@ impl<'c> CProc<'c> {
 
     // The line of the innermost frame, or without one that of `main`'s name.
     fn line_of_frame(&self) -> u32
-        ensures { result ≡ line_in (state_of self.now.machine []).frames (main_line_of (seen_code self.now.code.now)) }
+        ensures { result ≡ line_in (state_of self.now.machine.value []).frames (main_line_of (seen_code self.now.code.now)) }
     {
         if self.machine.frame_count() == 0 {
             self.code.main_line()
@@ -94,6 +94,16 @@ impl<'c> CProc<'c> {
             self.machine.frame(0).line
         }
     }
+}
+
+/// A machine behind a pointer, so that it stays where it is while its process moves.
+pub(crate) fn boxed<'c>(
+    alloc: Global,
+    machine: Machine<'c>,
+) -> Result<Box<Machine<'c>>, WantOfMemory>
+    ensures { IfOk result (λ b. b.value ≡ machine.entry) }
+{
+    Box::new(alloc, machine).map_err(|_| WantOfMemory)
 }
 
 /// How a process ended whose last event was of this kind.

@@ -1,6 +1,6 @@
 //! A process that runs code, as a process of a run.
 
-use crate::process::{CProc, end_with, look_at};
+use crate::process::{CProc, boxed, end_with, look_at};
 use nm_base::{Kind, Letter, ProcNo, WantOfMemory};
 use processes::{Look, Proc};
 use std::alloc::Global;
@@ -13,11 +13,11 @@ impl<'c> Proc for CProc<'c> {
     ghost use Rattle.c_process.specs.Following.{Follows};
     ghost use Rattle.c_process.specs.private.Laws.{follows_lawful, follows_shows};
 
-    ghost stands_for = { λ x s letters k. Follows x.machine x.look s letters k × (k ≡ x.count) };
+    ghost stands_for = { λ x s letters k. Follows x.machine.value x.look s letters k × (k ≡ x.count) };
 
     ghost Origin = { Code × ℕ };
 
-    ghost origin_of = { λ x. (seen_code x.code.now, (machine_setting x.machine).count) };
+    ghost origin_of = { λ x. (seen_code x.code.now, (machine_setting x.machine.value).count) };
 
     ghost name_of = { λ x. x.me };
 
@@ -38,22 +38,26 @@ impl<'c> Proc for CProc<'c> {
     }
 
     fn step(&mut self, alloc: Global) -> Result<(Kind, Option<Letter>), WantOfMemory> {
-        self.machine.reserve_output(alloc)?;
-        let (kind, letter) = self.machine.advance();
+        let machine = &mut *self.machine;
+        machine.reserve_output(alloc)?;
+        let (kind, letter) = machine.advance();
+        let next = machine.pending();
         self.count += 1;
-        self.look = look_at(self.machine.pending(), end_with(kind));
+        self.look = look_at(next, end_with(kind));
         Ok((kind, letter))
     }
 
     fn give(&mut self, letter: Letter) -> Kind {
-        let kind = self.machine.accept(letter);
+        let machine = &mut *self.machine;
+        let kind = machine.accept(letter);
+        let next = machine.pending();
         self.count += 1;
-        self.look = look_at(self.machine.pending(), end_with(kind));
+        self.look = look_at(next, end_with(kind));
         kind
     }
 
     fn copy(&self, alloc: Global) -> Result<Self, WantOfMemory> {
-        let machine = self.machine.copy(alloc)?;
+        let machine = boxed(alloc, self.machine.copy(alloc)?)?;
         Ok(CProc {
             code: self.code,
             machine,
@@ -63,9 +67,9 @@ impl<'c> Proc for CProc<'c> {
         })
     }
 
-    ghost lawful = { λ x s letters k h. follows_lawful x.machine x.look s letters k h.0 };
+    ghost lawful = { λ x s letters k h. follows_lawful x.machine.value x.look s letters k h.0 };
 
-    ghost shows = { λ x s letters k h. follows_shows x.machine x.look s letters k h.0 };
+    ghost shows = { λ x s letters k h. follows_shows x.machine.value x.look s letters k h.0 };
 
     ghost counts = { λ x s letters k h. h.1 };
 }

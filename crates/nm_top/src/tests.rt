@@ -4,6 +4,7 @@ mod certificates;
 mod clocks;
 mod failures;
 mod false_traces;
+mod inspections;
 mod one_process;
 mod programs;
 mod recordings;

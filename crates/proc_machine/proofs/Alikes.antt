@@ -15,8 +15,8 @@ use Rattle.proc_machine.specs.private.Outcomes.{pause_by}
 use Rattle.proc_machine.specs.View.{control_of, data_with}
 use Rattle.proc_machine.specs.private.Sound.{Holds}
 use Rattle.proc_machine.specs.private.Run.{StandsBefore, IsLastThere}
-use Rattle.proc_machine.specs.Standing.{shown_state, stand, ComesTo}
-use Rattle.proc_machine.specs.private.Kept.{IsFresh, IsKept}
+use Rattle.proc_machine.specs.Standing.{EndsThere, StaysThere, shown_state, stand, ComesTo}
+use Rattle.proc_machine.specs.private.Kept.{IsFresh, IsTooLarge, IsKept}
 
 module _ (code : Code) (count me : ℕ) (a : Execution) (o : Vec ℕ Global) (same : o.items ≡ a.output.items) where
   abbrev b : Execution
@@ -64,10 +64,14 @@ module _ (code : Code) (count me : ℕ) (a : Execution) (o : Vec ℕ Global) (sa
     short = f.short;
   }
 
+  large_alike : IsTooLarge code a → IsTooLarge code b
+  large_alike k = record { fresh = fresh_alike k.fresh; main = k.main; is = k.is; full = k.full }
+
   kept_plainly : (g : Bool) (n : Pause) → IsKept code count me a g n → IsKept code count me b g n
-  kept_plainly g pause.Done k = tt
+  kept_plainly true pause.Done k = holds_alike k
+  kept_plainly false pause.Done k = large_alike k
   kept_plainly true n k = (holds_alike k.0, stands_alike n k.1)
-  kept_plainly false n k = (k.0, record { fresh = fresh_alike k.1.fresh; main = k.1.main; is = k.1.is; full = k.1.full })
+  kept_plainly false n k = (k.0, large_alike k.1)
 
   pub kept_alike : (g : Bool) (n : Pause) → ∥ IsKept code count me a g n ∥₁ → ∥ IsKept code count me b g n ∥₁
   kept_alike g n k = ∥∥₁_map k (kept_plainly g n)
@@ -81,5 +85,21 @@ module _ (code : Code) (count me : ℕ) (a : Execution) (o : Vec ℕ Global) (sa
   stand_same true n events = ap (λ s. Done (control_of a) s) (data_same events 0)
   stand_same false n events = ap (λ s. Stopped Able s) (shown_same false events)
 
+  ends_alike : (inputs : List Message) (events : List Kind) → EndsThere code count me a inputs events → EndsThere code count me b inputs events
+  ends_alike inputs events h = record {
+    last = h.last;
+    before = h.before;
+    made = h.made;
+    steps = h.steps;
+    comes = h.comes ∙ ap (λ s. Done (control_of a) s) (sym (data_same h.before 0));
+    ends = ap (step code count me (control_of a)) (data_same h.before 1) ∙ h.ends ∙ ap (λ s. Stopped Over (shows s)) (sym (data_same events 0));
+  }
+
+  stays_alike : (g : Bool) (n : Pause) (inputs : List Message) (events : List Kind) → StaysThere code count me a g n inputs events → StaysThere code count me b g n inputs events
+  stays_alike true pause.Done inputs events h = ends_alike inputs events h
+  stays_alike true n inputs events h = tt
+  stays_alike false n inputs events h = tt
+
   pub comes_alike : (g : Bool) (n : Pause) (inputs : List Message) (events : List Kind) → ComesTo code count me a g n inputs events → ComesTo code count me b g n inputs events
-  comes_alike g n inputs events c = record { steps = c.steps; comes = c.comes ∙ sym (stand_same g n events) }
+  comes_alike g n inputs events c =
+      record { steps = c.steps; comes = c.comes ∙ sym (stand_same g n events); stays = stays_alike g n inputs events c.stays }

@@ -15,7 +15,7 @@ use Rattle.proc_machine.specs.Standing.{ComesTo, shown_state}
 use Rattle.proc_machine.specs.private.Kept.{IsKept}
 use Rattle.proc_machine.specs.private.Start.{IsCalled}
 use Rattle.proc_machine.specs.Machines.{frame_seen, callers_seen, places_seen}
-use Rattle.proc_machine.proofs.Standings.{run_on, not_done, stand_is}
+use Rattle.proc_machine.proofs.Standings.{run_on, not_done, stand_is, stays_none}
 use Rattle.proc_machine.proofs.Onwards as onwards
 
 pub kept_new : (code : Code) (count me : ℕ) (e : Execution) (n : Pause) → ∥ Holds code e ∥₁ → StandsBefore code count me e n → ∥ IsKept code count me e true n ∥₁
@@ -29,6 +29,7 @@ pub begins : (code : Code) (count me : ℕ) (first e : Execution) (n : Pause) �
 begins code count me first e n h r s = record {
   steps = 0 + r.steps;
   comes = run_on code count me [] 0 0 r.steps (control_of first) (data_with first [] 0) h ∙ r.comes ∙ sym (stand_is code count me e n [] (not_done code count me e n s));
+  stays = stays_none code count me e n [] [] (not_done code count me e n s);
 }
 
 -- ---- frames

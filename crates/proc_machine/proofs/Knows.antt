@@ -1,7 +1,6 @@
 -- What a machine knows before each event, and that it is right afterwards.
 use Rattle.std.proofs.Common.{◌≡◌, ℕ, ℤ, ◌<◌, Bool, true, false, List, [], ◌∷◌, Option, Some, None, refl, sym, ap, subst}
 use Rattle.std.proofs.Math.Logic.{∥∥₁_elim, ∥∥₁_map}
-use Rattle.std.proofs.lemmas.List.{append-nil}
 use Rattle.std.proofs.lemmas.Bool.{eqb-true}
 use Rattle.std.proofs.Props.{props}
 use Rattle.std.specs.Prelude.{IsTrue, slice_get, slice_index, option_map}
@@ -101,13 +100,13 @@ module _ (code : Code) (count me : ℕ) (e : Execution) where
 
   ends_begun : (k : Kind) (n : Pause) → (n ≡ pause.Done → ⊥) → (inputs : List Message) (events : List Kind) (c : Comes true n inputs events)
       → step code count me (control_of e) (data_with e events 1) ≡ Stopped Over (shown_state code count me e true (k ∷ events)) → Comes true pause.Done inputs (k ∷ events)
-  ends_begun k n not inputs events c h = subst (λ (l : List Message). Comes true pause.Done l (k ∷ events)) (append-nil inputs) (ends_there code count me e n not [] inputs events c k h)
+  ends_begun k n not inputs events c h = ends_there code count me e n not inputs events c k h
 
   ends_before : (cause : FaultCause) → cause ≡ DataFull → Kept false (pause.Fault cause) → (inputs : List Message) (events : List Kind) → Comes false (pause.Fault cause) inputs events
       → Comes false pause.Done inputs (kind.Faulted cause ∷ events)
   ends_before cause is k inputs [] c =
       let c2 = subst (λ x. Comes false (pause.Fault x) inputs []) is c in
-      subst (λ x. Comes false pause.Done inputs (kind.Faulted x ∷ [])) (sym is) (record { steps = 0; comes = ∥∥₁_elim k (Outcome-set _ _) (λ h. ends_large code count me e h.1 inputs c2) })
+      subst (λ x. Comes false pause.Done inputs (kind.Faulted x ∷ [])) (sym is) (record { steps = 0; comes = ∥∥₁_elim k (Outcome-set _ _) (λ h. ends_large code count me e h.1 inputs c2); stays = tt })
   ends_before cause is k inputs (x ∷ events) c =
       let c2 = subst (λ y. Comes false (pause.Fault y) inputs (x ∷ events)) is c in
       absurd (∥∥₁_elim k no_proof (λ h. never_later code count me e h.1 inputs x events c2))

@@ -21,3 +21,4 @@ pub mod Going
 pub mod Alikes
 pub mod Begins
 pub mod Knows
+pub mod Places

@@ -23,7 +23,7 @@ use Rattle.proc_machine.specs.private.Moves.{Makes, Takes}
 use Rattle.proc_machine.specs.private.Sound.{Holds}
 use Rattle.proc_machine.specs.private.Run.{Reaches, StandsBefore, After, Accepts, instr_at}
 use Rattle.proc_machine.specs.Standing.{ComesTo}
-use Rattle.proc_machine.specs.private.Kept.{IsKept}
+use Rattle.proc_machine.specs.private.Kept.{IsTooLarge, IsKept}
 use Rattle.proc_machine.proofs.Sending.{send_faults, print_faults, word_bounds}
 use Rattle.proc_machine.proofs.Stepping.{by_shown, step_of, holds_after}
 use Rattle.proc_machine.proofs.Standings.{goes_through}
@@ -129,6 +129,15 @@ module _ (code : Code) (count me : ℕ) where
   both_kept e pause.Done h k = cc
   both_kept e n h k = k
 
+  -- at every pause
+  pub kept_holds : (e : Execution) (n : Pause) → IsKept code count me e true n → Holds code e
+  kept_holds e pause.Done k = k
+  kept_holds e n k = k.0
+
+  pub kept_large : (e : Execution) (n : Pause) → IsKept code count me e false n → IsTooLarge code e
+  kept_large e pause.Done k = k
+  kept_large e n k = k.1
+
   never_large : (e : Execution) (n : Pause) → leads n ≡ true → IsKept code count me e false n → ⊥
   never_large e pause.Done h k = cc
   never_large e (pause.Fault cause) h k = cc
@@ -142,12 +151,17 @@ module _ (code : Code) (count me : ℕ) where
   kept_both e false n h k = absurd (∥∥₁_elim k no_proof (never_large e n h))
 
   pub kept_new : (e : Execution) (n : Pause) → ∥ Holds code e ∥₁ → StandsBefore code count me e n → Kept e true n
-  kept_new e pause.Done h s = ∣ tt ∣₁
+  kept_new e pause.Done h s = h
   kept_new e n h s = ∥∥₁_map h (λ x. (x, s))
 
   pub kept_on : (e e3 : Execution) (b : Bool) (n n3 : Pause) → leads n ≡ true → Kept e b n → ∥ Holds code e3 ∥₁ → StandsBefore code count me e3 n3 → Kept e3 b n3
   kept_on e e3 true n n3 h k g s = kept_new e3 n3 g s
   kept_on e e3 false n n3 h k g s = absurd (∥∥₁_elim k no_proof (never_large e n h))
+
+  -- the last event leaves what is kept
+  pub kept_over : (e : Execution) (b : Bool) (n : Pause) → Kept e b n → Kept e b pause.Done
+  kept_over e true n k = ∥∥₁_map k (kept_holds e n)
+  kept_over e false n k = ∥∥₁_map k (kept_large e n)
 
   -- ---- runs
 

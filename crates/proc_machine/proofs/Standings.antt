@@ -21,7 +21,7 @@ use Rattle.proc_machine.specs.Pauses.{status_of, pause_of}
 use Rattle.proc_machine.specs.private.Outcomes.{pause_by, newest}
 use Rattle.proc_machine.specs.View.{control_of, data_with}
 use Rattle.proc_machine.specs.private.Run.{Reaches, StandsBefore}
-use Rattle.proc_machine.specs.Standing.{shown_state, stand, ComesTo}
+use Rattle.proc_machine.specs.Standing.{StaysThere, shown_state, stand, ComesTo}
 use Rattle.proc_machine.specs.private.Kept.{IsTooLarge, IsKept}
 use Rattle.proc_machine.proofs.Running.{exec_more}
 use Rattle.proc_machine.proofs.Sets.{Outcome-set, Status-set}
@@ -176,6 +176,10 @@ module _ (code : Code) (count me : ℕ) where
   stand_is e (pause.End value) events h = refl
   stand_is e (pause.Fault cause) events h = refl
 
+  pub stays_none : (e : Execution) (n : Pause) (inputs : List Message) (events : List Kind) → (n ≡ pause.Done → ⊥) → StaysThere code count me e true n inputs events
+  stays_none e pause.Done inputs events h = absurd (h refl)
+  stays_none e n inputs events h = tt
+
   module _ (e : Execution) (n : Pause) (not : n ≡ pause.Done → ⊥) (letters : List Message) (inputs : List Message) (events : List Kind) (c : Comes e true n inputs events) where
     abbrev pub given_one : State
     given_one = law.more 1 letters (data_with e events 0)
@@ -194,11 +198,19 @@ module _ (code : Code) (count me : ℕ) where
           run_on (inputs ++ letters) (suc (length events)) (c.steps + 1) r.steps (control_of e2) (data_with e2 (k ∷ events) 0) (there ∙ h)
           ∙ r.comes
           ∙ sym (stand_is e3 n3 (k ∷ events) (not_done e3 n3 stands));
+      stays = stays_none e3 n3 (inputs ++ letters) (k ∷ events) (not_done e3 n3 stands);
     }
 
-    -- the last event
-    pub ends_there : (k : Kind) → step code count me (control_of e) given_one ≡ Stopped Over (shown_state code count me e true (k ∷ events)) → Comes e true pause.Done (inputs ++ letters) (k ∷ events)
-    ends_there k h = record { steps = c.steps + 1; comes = there ∙ h }
+  -- the last event
+  pub ends_there : (e : Execution) (n : Pause) → (n ≡ pause.Done → ⊥) → (inputs : List Message) (events : List Kind) → Comes e true n inputs events → (k : Kind)
+      → step code count me (control_of e) (data_with e events 1) ≡ Stopped Over (shown_state code count me e true (k ∷ events)) → Comes e true pause.Done inputs (k ∷ events)
+  ends_there e n not inputs events c k h =
+      let here : run inputs (length events) c.steps ≡ Done (control_of e) (data_with e events 0) = c.comes ∙ stand_is e n events not in
+      record {
+        steps = c.steps + 1;
+        comes = one_further e inputs events c.steps here ∙ h;
+        stays = record { last = k; before = events; made = refl; steps = c.steps; comes = here; ends = h };
+      }
 
   abbrev able_at : State → Outcome Control
   able_at s = Stopped Able s

@@ -38,6 +38,7 @@ impl<'c> Machine<'c> {
     ghost use Rattle.nm_base.specs.Message.{Message, message_of};
     ghost use Rattle.nm_base.specs.Scripts.{is_last, letter_made};
     ghost use Rattle.nm_base.specs.Channels.{has_channel};
+    ghost use Rattle.stack_code.specs.Seek.{IsPlaceIn};
     ghost use Rattle.proc_machine.specs.declared.pause.Pause.TheVariants as pause;
     ghost use Rattle.proc_machine.specs.Pauses.{pause_of};
     ghost use Rattle.proc_machine.specs.private.Moves.{sent_by};
@@ -98,6 +99,13 @@ impl<'c> Machine<'c> {
         self.execution.output.as_slice()
     }
 
+    /// How many words the globals and the live frames have.
+    pub fn words(&self) -> u32
+        ensures { result ≡ length (state_of self.now []).words }
+    {
+        self.execution.words.len() as u32
+    }
+
     /// A word of the globals or of a live frame, by its place.
     pub fn word(&self, place: u32) -> u32
         requires { place < length (state_of self.now []).words }
@@ -117,10 +125,12 @@ impl<'c> Machine<'c> {
         }
     }
 
-    /// The frame of that number, 0 the innermost; `i` is below `frame_count`.
+    /// The frame of that number, 0 the innermost; `i` is below `frame_count`. It stands at an
+    /// instruction, also once the process is over.
     pub fn frame(&self, i: u32) -> MachineFrame
         requires { i < length (frames_of self.now) }
-        ensures { slice_get (frames_of self.now) i ≡ Some result }
+        ensures same { slice_get (frames_of self.now) i ≡ Some result }
+        ensures placed { IsPlaceIn (machine_setting self.now).code (Some result.at) }
     {
         let frame = if i == 0 {
             self.execution.frame

@@ -36,7 +36,7 @@ pub(super) fn code_of(alloc: Global, text: &str) -> Result<Code, Fail>
 }
 
 /// The only process of a program, before its first event.
-fn begun<'c>(alloc: Global, code: &'c Code) -> Result<Seat<CProc<'c>>, WantOfMemory> {
+pub(super) fn begun<'c>(alloc: Global, code: &'c Code) -> Result<Seat<CProc<'c>>, WantOfMemory> {
     Ok(Seat::begin(CProc::new(alloc, code, ProcNo { no: 0 }, 1)?))
 }
 
@@ -61,7 +61,7 @@ fn next<'c>(
     }
 }
 
-fn stepped<'c>(
+pub(super) fn stepped<'c>(
     alloc: Global,
     mut seat: Seat<CProc<'c>>,
     turns: u32,

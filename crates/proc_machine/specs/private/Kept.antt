@@ -35,8 +35,9 @@ pub record IsTooLarge (code : Code) (e : Execution) : Type 0 where
   pub is : slice_get code.functions code.main ≡ Some main
   pub full : nat_le (length code.globals + main.frame_words) MAX_DATA_WORDS ≡ false
 
--- what a machine knows: where it stands it can go on, and before which event
+-- what a machine knows: where it stands it can go on, and before which event; what is over stays where it was
 abbrev pub IsKept : Code → ℕ → ℕ → Execution → Bool → Pause → Type 0
-IsKept code count me e begun pause.Done = Unit {0}
+IsKept code count me e true pause.Done = Holds code e
+IsKept code count me e false pause.Done = IsTooLarge code e
 IsKept code count me e true next = Holds code e × StandsBefore code count me e next
 IsKept code count me e false next = (next ≡ pause.Fault DataFull) × IsTooLarge code e

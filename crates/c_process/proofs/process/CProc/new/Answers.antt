@@ -2,7 +2,8 @@ use Rattle.std.proofs.Common.{[], refl, sym, ap, ◌∙◌, subst, arith}
 use Rattle.nm_base.specs.Scripts.{Script}
 use Rattle.c_tree.specs.Play.{script_of}
 use Rattle.stack_code.specs.View.{seen_code}
-use Rattle.proc_machine.specs.Machines.{MachineSetting, next_of}
+use Rattle.proc_machine.specs.declared.machine.Machine.{Machine}
+use Rattle.proc_machine.specs.Machines.{MachineSetting, MachineStandsFor, machine_setting, next_of, letters_sent}
 use Rattle.proc_machine.specs.Pauses.{status_of}
 use Rattle.c_process.specs.Shown.{look_of}
 use Rattle.c_process.specs.Standing.{IsCodeOf}
@@ -12,28 +13,33 @@ use Rattle.c_process.proofs.Standing.{begins}
 use Rattle.c_process.proofs.process.CProc.new.Goals as goal
 
 pub invariant_of-result-clause-runs : goal.invariant_of-result-clause-runs
-invariant_of-result-clause-runs c = ap (λ (set : MachineSetting). set.code) c.in_ok-machine.ensures.setting
+invariant_of-result-clause-runs c = ap (λ (set : MachineSetting). set.code) (ap machine_setting c.in_ok-machine.ensures ∙ c.in_ok-new.ensures.setting)
 
 pub invariant_of-result-clause-named : goal.invariant_of-result-clause-named
-invariant_of-result-clause-named c = ap (λ (set : MachineSetting). set.me) c.in_ok-machine.ensures.setting
+invariant_of-result-clause-named c = ap (λ (set : MachineSetting). set.me) (ap machine_setting c.in_ok-machine.ensures ∙ c.in_ok-new.ensures.setting)
 
 pub invariant_of-result-clause-few : goal.invariant_of-result-clause-few
-invariant_of-result-clause-few c = omega (arith, c.in_ok-machine.ensures.sent)
+invariant_of-result-clause-few c =
+    let sent = ap letters_sent c.in_ok-machine.ensures in
+    omega (arith, sent, c.in_ok-new.ensures.sent)
 
 pub invariant_of-result-clause-seen : goal.invariant_of-result-clause-seen
 invariant_of-result-clause-seen c =
-    begins_seen c.look_at-look.result (next_of c.in_ok-machine.machine)
-    (c.look_at-look.ensures.looks [] refl ∙ ap (λ q. look_of (status_of q) []) c.pending.ensures.same)
+    begins_seen c.look_at-look.result (next_of c.in_ok-machine.machine.value)
+    (c.look_at-look.ensures.looks [] refl ∙ ap (λ q. look_of (status_of q) []) (c.pending.ensures.same ∙ ap next_of c.deref.ensures))
 
 pub returns-clause-stands : goal.returns-clause-stands
 returns-clause-stands c = λ p is.
-    let m = c.in_ok-machine.machine in
-    let ok = c.in_ok-machine.ensures in
-    let looks = c.look_at-look.ensures.looks [] refl ∙ ap (λ q. look_of (status_of q) []) c.pending.ensures.same in
-    let code = subst (λ (set : MachineSetting). IsCodeOf p set.code) (sym ok.setting) is in
-    let start = begins m c.look_at-look.result p ok.stands looks code in
-    let script = ap (λ (set : MachineSetting). script_of p set.count set.me.no) ok.setting in
+    let m = c.in_ok-machine.machine.value in
+    let ok = c.in_ok-new.ensures in
+    let setting = ap machine_setting c.in_ok-machine.ensures ∙ ok.setting in
+    let stands = subst (λ (m : Machine). MachineStandsFor m [] []) (sym c.in_ok-machine.ensures) ok.stands in
+    let looks = c.look_at-look.ensures.looks [] refl ∙ ap (λ q. look_of (status_of q) []) (c.pending.ensures.same ∙ ap next_of c.deref.ensures) in
+    let code = subst (λ (set : MachineSetting). IsCodeOf p set.code) (sym setting) is in
+    let start = begins m c.look_at-look.result p stands looks code in
+    let script = ap (λ (set : MachineSetting). script_of p set.count set.me.no) setting in
     (subst (λ (s : Script). Follows m c.look_at-look.result s [] 0) script start, refl)
 
 pub returns-clause-origin : goal.returns-clause-origin
-returns-clause-origin c = ap (λ (set : MachineSetting). (seen_code c.args.code.now, set.count)) c.in_ok-machine.ensures.setting
+returns-clause-origin c =
+    ap (λ (set : MachineSetting). (seen_code c.args.code.now, set.count)) (ap machine_setting c.in_ok-machine.ensures ∙ c.in_ok-new.ensures.setting)
