@@ -40,7 +40,7 @@ module _ {P M : Type 0} (k : ℕ) where
   front_is (w ∷ xs) zero d rises lt more first =
       let behind = pairs_first (λ v u. v.events < u.events) w xs rises in
       sym (ap (λ b. cond b (w ∷ up_to k xs) (up_to k xs)) (test_false k w.events more)
-        ∙ none_left xs (λ i e within. omega (arith, more, behind i e within)))
+      ∙ none_left xs (λ i e within. omega (arith, more, behind i e within)))
   front_is (w ∷ xs) (suc n) d rises lt more first =
       let rises = pairs_rest (λ v u. v.events < u.events) w xs rises in
       let rest = front_is xs n d rises (omega (arith, lt)) more (λ i below. first (suc i) (omega (arith, below))) in

@@ -127,7 +127,7 @@ module _ {A : Type 0} (f : A → Watched) {e : Event} {old : List Watched} {i n 
       let front = ap (λ v. take i (map f xs) ++ v ∷ []) (sym is) ∙ sym (set_before f xs i y lt) in
       subst (λ k. IsTelling e old (map f (slice_set xs i y)) k n) on record {
         seen = t.seen ++ w ∷ [];
-        is = t.is ∙ ap (λ l. t.seen ++ l) rest 
+        is = t.is ∙ ap (λ l. t.seen ++ l) rest
             ∙ sym (append_assoc t.seen (w ∷ []) (drop (suc i) (map f (slice_set xs i y))));
         told = subst (λ l. Told (e ∷ []) (t.seen ++ w ∷ []) l n) front (noted_one_more w t.told);
       }

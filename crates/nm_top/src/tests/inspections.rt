@@ -110,7 +110,11 @@ fn names_stand_for_the_innermost_variable(rt: HostRuntime) -> Result<(), Fail> {
         (TOO_LARGE, 1, "x", None, no_name, no_name),
     ];
     for (text, turns, name, index, value, global) in table {
-        assert_eq!(&rt; read(rt.alloc(), text, turns, name, index)?, (value, global), "{name}");
+        assert_eq!(&rt;
+            read(rt.alloc(), text, turns, name, index)?,
+            (value, global),
+            "{name}"
+        );
     }
     Ok(())
 }
@@ -157,7 +161,11 @@ fn frames_tell_their_lines(rt: HostRuntime) -> Result<(), Fail> {
         (TOO_LARGE, 1, None, None, None),
     ];
     for (text, turns, next, inner, outer) in table {
-        assert_eq!(&rt; frames(rt.alloc(), text, turns)?, (next, inner, outer), "{turns}");
+        assert_eq!(&rt;
+            frames(rt.alloc(), text, turns)?,
+            (next, inner, outer),
+            "{turns}"
+        );
     }
     Ok(())
 }

@@ -6,6 +6,6 @@ use Rattle.checkpoints.proofs.kept.Checkpoints.back_to.Goals as goal
 pub invariant_of-self : goal.invariant_of-self
 invariant_of-self g c =
     let within : c.count_up_to-left.result ≤ length c.self.inside.worlds.items =
-        omega (arith, c.count_up_to-left.ensures.within, ap length c.as_slice.ensures.value) in
+    omega (arith, c.count_up_to-left.ensures.within, ap length c.as_slice.ensures.value) in
     subst AreKept (sym c.truncate.ensures.items)
-      (kept_front c.self.inside.worlds.items c.count_up_to-left.result within c.self.invariant)
+    (kept_front c.self.inside.worlds.items c.count_up_to-left.result within c.self.invariant)

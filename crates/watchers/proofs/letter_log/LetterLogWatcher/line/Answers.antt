@@ -10,4 +10,4 @@ returns c =
     let line = facts.is_line _ _ (omega (arith, c.empty.ensures.len, c.with_count.ensures.len)) said in
     let many : c.len.result ≡ length c.args.self.now.letters.items = search rules in
     subst (λ n. IsLine (codes "letters " ++ decimal n) c.with_count.result)
-      (many ∙ sym (facts.half_of_names c.args.self.now.letters.items)) line
+    (many ∙ sym (facts.half_of_names c.args.self.now.letters.items)) line
