@@ -1,0 +1,159 @@
+-- The replies of a debugger, as functions of plain values. Every line ends with one newline.
+use Rattle.std.specs.Prelude.{ℕ, ◌+◌, List, [], ◌∷◌, ◌++◌, length, codes, Option, Some, None}
+use Rattle.std.specs.List.{flat_map, range_with_len}
+use Rattle.std.specs.Fmt.{decimal, signed_decimal}
+use Rattle.nm_base.specs.declared.kind.Kind.{Kind}
+use Rattle.nm_base.specs.declared.kind.Kind.TheVariants.{Line, Sent, Accepted, Printed, Ended, Faulted}
+use Rattle.nm_base.specs.declared.operator.Ctype.{Ctype}
+use Rattle.nm_base.specs.declared.operator.Ctype.TheVariants.{Int, Unsigned}
+use Rattle.nm_base.specs.Message.{Message}
+use Rattle.nm_base.specs.Word.{as_int}
+use Rattle.processes.specs.declared.proc.Look.{Look}
+use Rattle.processes.specs.declared.proc.Look.TheVariants as look
+use Rattle.event_list.specs.declared.Event.{Event}
+use Rattle.report.specs.declared.replies.Spot.{Spot}
+use Rattle.report.specs.declared.replies.Spot.TheVariants as spot
+use Rattle.report.specs.declared.replies.Notice.{Notice}
+use Rattle.report.specs.declared.replies.Notice.TheVariants.{Full, NoBreak, Finished, Stuck, IdleOver, IdleCount, IdleLetter, NoEvent, NoName, NeedsIndex, NoIndex, NoFrame, NoMail, NoWatcher, NoProcess, Unknown, Same, Before, After, Unordered, TooLong}
+use Rattle.report.specs.Texts.{hex_digits, letter_after, cause_name, line_end}
+
+-- ---- events
+
+-- what an event of process p is
+abbrev pub kind_text : ℕ → Kind → List ℕ
+kind_text p (Line line) = codes "line " ++ decimal line
+kind_text p (Sent number dest chan len words) =
+    codes "sent " ++ decimal p ++ codes "." ++ decimal number ++ codes " to " ++ decimal dest.no
+    ++ codes " on " ++ decimal chan
+kind_text p (Accepted set id) = letter_after (codes "accepted ") id ++ codes " set 0x" ++ hex_digits set
+kind_text p (Printed bytes) = codes "printed " ++ decimal bytes
+kind_text p (Ended value) = codes "ended " ++ signed_decimal value
+kind_text p (Faulted cause) = codes "faulted " ++ cause_name cause
+
+-- an event's line, `P.E KIND`, behind a text
+abbrev pub event_after : List ℕ → Event → List ℕ
+event_after start e =
+    start ++ decimal e.proc.no ++ codes "." ++ decimal e.number ++ codes " " ++ kind_text e.proc.no e.kind ++ codes "\n"
+
+abbrev pub event_line : Event → List ℕ
+event_line e = event_after [] e
+
+-- ---- breakpoints
+
+-- where a breakpoint fits: after an event of its process whose next event is a Line of this line, or at its receives
+abbrev pub spot_text : Spot → List ℕ
+spot_text (spot.Line line) = codes " line " ++ decimal line
+spot_text spot.Receive = codes " recv"
+
+-- breakpoint k was set for process p
+abbrev pub set_line : ℕ → ℕ → Spot → List ℕ
+set_line k p at = codes "break " ++ decimal k ++ codes ": process " ++ decimal p ++ spot_text at ++ codes "\n"
+
+abbrev pub cleared_line : ℕ → List ℕ
+cleared_line k = codes "cleared " ++ decimal k ++ codes "\n"
+
+-- breakpoint k fits after the event
+abbrev pub broke_line : ℕ → Event → List ℕ
+broke_line k e = event_after (codes "break " ++ decimal k ++ codes " at ") e
+
+-- watcher k stops after the event
+abbrev pub watcher_line : ℕ → Event → List ℕ
+watcher_line k e = event_after (codes "watcher " ++ decimal k ++ codes " at ") e
+
+-- ---- where a run is
+
+abbrev pub at_line : ℕ → List ℕ
+at_line events = codes "at " ++ decimal events ++ codes " events\n"
+
+-- how a process stands
+abbrev pub status_text : Look → List ℕ
+status_text look.Able = codes "able"
+status_text (look.Waiting set) = codes "waiting 0x" ++ hex_digits set
+status_text (look.Ended value) = codes "ended " ++ signed_decimal value
+status_text (look.Faulted cause) = codes "faulted " ++ cause_name cause
+
+-- where process p is, and how many of its events it made
+abbrev pub where_line : ℕ → Look → ℕ → ℕ → ℕ → List ℕ
+where_line p look line events count =
+    codes "process " ++ decimal p ++ codes " " ++ status_text look ++ codes " line " ++ decimal line
+    ++ codes ", " ++ decimal events ++ codes " of " ++ decimal count ++ codes " events\n"
+
+-- frame i, of the function of this name
+abbrev pub frame_line : ℕ → List ℕ → ℕ → List ℕ
+frame_line i name line = codes "#" ++ decimal i ++ codes " " ++ name ++ codes " line " ++ decimal line ++ codes "\n"
+
+-- ---- values
+
+-- a value by its type
+abbrev pub value_text : ℕ → Ctype → List ℕ
+value_text bits Int = signed_decimal (as_int bits)
+value_text bits Unsigned = decimal bits
+
+-- a name, with the index where one was given
+abbrev pub named_text : List ℕ → Option ℕ → List ℕ
+named_text name None = name
+named_text name (Some i) = name ++ codes "[" ++ decimal i ++ codes "]"
+
+abbrev pub value_line : List ℕ → Option ℕ → ℕ → Ctype → List ℕ
+value_line name index bits of = named_text name index ++ codes " = " ++ value_text bits of ++ codes "\n"
+
+-- what a process printed: how many bytes, the bytes, and a newline if they don't end in one
+abbrev pub output_text : List ℕ → List ℕ
+output_text bytes = decimal (length bytes) ++ codes " bytes\n" ++ (bytes ++ line_end bytes)
+
+-- ---- letters and clocks
+
+abbrev pub word_text : ℕ → List ℕ
+word_text bits = codes " " ++ signed_decimal (as_int bits)
+
+-- part q of a timestamp
+abbrev pub part_text : (ℕ → ℕ) → ℕ → List ℕ
+part_text parts q = codes " " ++ decimal (parts q)
+
+-- the parts of n processes
+abbrev pub parts_text : ℕ → (ℕ → ℕ) → List ℕ
+parts_text n parts = flat_map (part_text parts) (range_with_len 0 n)
+
+-- a waiting letter with its words and its timestamp, `S.K on C: W .. @ T ..`
+abbrev pub waiting_line : ℕ → Message → (ℕ → ℕ) → List ℕ
+waiting_line n m parts =
+    letter_after [] m.id ++ codes " on " ++ decimal m.chan ++ codes ":" ++ flat_map word_text m.words ++ codes " @"
+    ++ parts_text n parts ++ codes "\n"
+
+-- the clock of process p among n
+abbrev pub clock_line : ℕ → ℕ → (ℕ → ℕ) → List ℕ
+clock_line p n parts = codes "clock " ++ decimal p ++ codes ":" ++ parts_text n parts ++ codes "\n"
+
+-- ---- watchers
+
+-- what watcher k says, in a debugger
+abbrev pub watch_line : ℕ → List ℕ → List ℕ
+watch_line k said = codes "watch " ++ decimal k ++ codes ": " ++ said ++ codes "\n"
+
+abbrev pub detached_line : ℕ → List ℕ
+detached_line k = codes "detached " ++ decimal k ++ codes "\n"
+
+-- ---- replies without a number
+
+abbrev pub notice_line : Notice → List ℕ
+notice_line Full = codes "full\n"
+notice_line NoBreak = codes "no break\n"
+notice_line Finished = codes "finished\n"
+notice_line Stuck = codes "stuck\n"
+notice_line IdleOver = codes "idle over\n"
+notice_line IdleCount = codes "idle count\n"
+notice_line IdleLetter = codes "idle letter\n"
+notice_line NoEvent = codes "no event\n"
+notice_line NoName = codes "no name\n"
+notice_line NeedsIndex = codes "needs index\n"
+notice_line NoIndex = codes "no index\n"
+notice_line NoFrame = codes "no frame\n"
+notice_line NoMail = codes "no mail\n"
+notice_line NoWatcher = codes "no watcher\n"
+notice_line NoProcess = codes "no process\n"
+notice_line Unknown = codes "?\n"
+notice_line Same = codes "same\n"
+notice_line Before = codes "before\n"
+notice_line After = codes "after\n"
+notice_line Unordered = codes "unordered\n"
+notice_line TooLong = codes "too long\n"
