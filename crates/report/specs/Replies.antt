@@ -6,37 +6,42 @@ use Rattle.nm_base.specs.declared.kind.Kind.{Kind}
 use Rattle.nm_base.specs.declared.kind.Kind.TheVariants.{Line, Sent, Accepted, Printed, Ended, Faulted}
 use Rattle.nm_base.specs.declared.operator.Ctype.{Ctype}
 use Rattle.nm_base.specs.declared.operator.Ctype.TheVariants.{Int, Unsigned}
+use Rattle.nm_base.specs.declared.letter.LetterId.{LetterId}
 use Rattle.nm_base.specs.Message.{Message}
 use Rattle.nm_base.specs.Word.{as_int}
 use Rattle.processes.specs.declared.proc.Look.{Look}
-use Rattle.processes.specs.declared.proc.Look.TheVariants as look
 use Rattle.event_list.specs.declared.Event.{Event}
 use Rattle.report.specs.declared.replies.Spot.{Spot}
 use Rattle.report.specs.declared.replies.Spot.TheVariants as spot
 use Rattle.report.specs.declared.replies.Notice.{Notice}
 use Rattle.report.specs.declared.replies.Notice.TheVariants.{Full, NoBreak, Finished, Stuck, IdleOver, IdleCount, IdleLetter, NoEvent, NoName, NeedsIndex, NoIndex, NoFrame, NoMail, NoWatcher, NoProcess, Unknown, Same, Before, After, Unordered, TooLong}
-use Rattle.report.specs.Texts.{hex_digits, letter_after, cause_name, line_end}
+use Rattle.report.specs.Texts.{hex_digits, letter_after, cause_name, status_text, line_end}
 
 -- ---- events
+
+-- a letter of process p that was sent
+abbrev pub sent_text : ℕ → ℕ → ℕ → ℕ → List ℕ
+sent_text p number dest chan =
+    codes "sent " ++ decimal p ++ codes "." ++ decimal number ++ codes " to " ++ decimal dest ++ codes " on " ++ decimal chan
+
+abbrev pub accepted_text : LetterId → ℕ → List ℕ
+accepted_text id set = letter_after (codes "accepted ") id ++ codes " set 0x" ++ hex_digits set
 
 -- what an event of process p is
 abbrev pub kind_text : ℕ → Kind → List ℕ
 kind_text p (Line line) = codes "line " ++ decimal line
-kind_text p (Sent number dest chan len words) =
-    codes "sent " ++ decimal p ++ codes "." ++ decimal number ++ codes " to " ++ decimal dest.no
-    ++ codes " on " ++ decimal chan
-kind_text p (Accepted set id) = letter_after (codes "accepted ") id ++ codes " set 0x" ++ hex_digits set
+kind_text p (Sent number dest chan len words) = sent_text p number dest.no chan
+kind_text p (Accepted set id) = accepted_text id set
 kind_text p (Printed bytes) = codes "printed " ++ decimal bytes
 kind_text p (Ended value) = codes "ended " ++ signed_decimal value
 kind_text p (Faulted cause) = codes "faulted " ++ cause_name cause
 
--- an event's line, `P.E KIND`, behind a text
-abbrev pub event_after : List ℕ → Event → List ℕ
-event_after start e =
-    start ++ decimal e.proc.no ++ codes "." ++ decimal e.number ++ codes " " ++ kind_text e.proc.no e.kind ++ codes "\n"
+abbrev pub number_text : ℕ → ℕ → List ℕ
+number_text p number = decimal p ++ codes "." ++ decimal number ++ codes " "
 
+-- an event's line, `P.E KIND`
 abbrev pub event_line : Event → List ℕ
-event_line e = event_after [] e
+event_line e = number_text e.proc.no e.number ++ kind_text e.proc.no e.kind ++ codes "\n"
 
 -- ---- breakpoints
 
@@ -45,38 +50,40 @@ abbrev pub spot_text : Spot → List ℕ
 spot_text (spot.Line line) = codes " line " ++ decimal line
 spot_text spot.Receive = codes " recv"
 
+abbrev pub break_text : ℕ → ℕ → List ℕ
+break_text k p = codes "break " ++ decimal k ++ codes ": process " ++ decimal p
+
 -- breakpoint k was set for process p
 abbrev pub set_line : ℕ → ℕ → Spot → List ℕ
-set_line k p at = codes "break " ++ decimal k ++ codes ": process " ++ decimal p ++ spot_text at ++ codes "\n"
+set_line k p at = break_text k p ++ spot_text at ++ codes "\n"
 
 abbrev pub cleared_line : ℕ → List ℕ
 cleared_line k = codes "cleared " ++ decimal k ++ codes "\n"
 
 -- breakpoint k fits after the event
 abbrev pub broke_line : ℕ → Event → List ℕ
-broke_line k e = event_after (codes "break " ++ decimal k ++ codes " at ") e
+broke_line k e = codes "break " ++ decimal k ++ codes " at " ++ event_line e
 
 -- watcher k stops after the event
 abbrev pub watcher_line : ℕ → Event → List ℕ
-watcher_line k e = event_after (codes "watcher " ++ decimal k ++ codes " at ") e
+watcher_line k e = codes "watcher " ++ decimal k ++ codes " at " ++ event_line e
 
 -- ---- where a run is
 
 abbrev pub at_line : ℕ → List ℕ
 at_line events = codes "at " ++ decimal events ++ codes " events\n"
 
--- how a process stands
-abbrev pub status_text : Look → List ℕ
-status_text look.Able = codes "able"
-status_text (look.Waiting set) = codes "waiting 0x" ++ hex_digits set
-status_text (look.Ended value) = codes "ended " ++ signed_decimal value
-status_text (look.Faulted cause) = codes "faulted " ++ cause_name cause
+abbrev pub of_process : ℕ → List ℕ
+of_process p = codes "process " ++ decimal p ++ codes " "
 
--- where process p is, and how many of its events it made
+-- the line at which a process is, and how many of its events it made
+abbrev pub place_text : ℕ → ℕ → ℕ → List ℕ
+place_text line events count =
+    codes " line " ++ decimal line ++ codes ", " ++ decimal events ++ codes " of " ++ decimal count ++ codes " events\n"
+
+-- where process p is
 abbrev pub where_line : ℕ → Look → ℕ → ℕ → ℕ → List ℕ
-where_line p look line events count =
-    codes "process " ++ decimal p ++ codes " " ++ status_text look ++ codes " line " ++ decimal line
-    ++ codes ", " ++ decimal events ++ codes " of " ++ decimal count ++ codes " events\n"
+where_line p look line events count = of_process p ++ status_text look ++ place_text line events count
 
 -- frame i, of the function of this name
 abbrev pub frame_line : ℕ → List ℕ → ℕ → List ℕ
@@ -84,22 +91,25 @@ frame_line i name line = codes "#" ++ decimal i ++ codes " " ++ name ++ codes " 
 
 -- ---- values
 
--- a value by its type
-abbrev pub value_text : ℕ → Ctype → List ℕ
-value_text bits Int = signed_decimal (as_int bits)
-value_text bits Unsigned = decimal bits
-
 -- a name, with the index where one was given
 abbrev pub named_text : List ℕ → Option ℕ → List ℕ
 named_text name None = name
 named_text name (Some i) = name ++ codes "[" ++ decimal i ++ codes "]"
 
+-- a value by its type
+abbrev pub value_text : ℕ → Ctype → List ℕ
+value_text bits Int = signed_decimal (as_int bits)
+value_text bits Unsigned = decimal bits
+
 abbrev pub value_line : List ℕ → Option ℕ → ℕ → Ctype → List ℕ
-value_line name index bits of = named_text name index ++ codes " = " ++ value_text bits of ++ codes "\n"
+value_line name index bits of = named_text name index ++ (codes " = " ++ value_text bits of ++ codes "\n")
+
+abbrev pub length_text : ℕ → List ℕ
+length_text bytes = decimal bytes ++ codes " bytes\n"
 
 -- what a process printed: how many bytes, the bytes, and a newline if they don't end in one
 abbrev pub output_text : List ℕ → List ℕ
-output_text bytes = decimal (length bytes) ++ codes " bytes\n" ++ (bytes ++ line_end bytes)
+output_text bytes = length_text (length bytes) ++ (bytes ++ line_end bytes)
 
 -- ---- letters and clocks
 
@@ -114,15 +124,24 @@ part_text parts q = codes " " ++ decimal (parts q)
 abbrev pub parts_text : ℕ → (ℕ → ℕ) → List ℕ
 parts_text n parts = flat_map (part_text parts) (range_with_len 0 n)
 
+-- a timestamp behind a letter
+abbrev pub stamp_text : ℕ → (ℕ → ℕ) → List ℕ
+stamp_text n parts = codes " @" ++ parts_text n parts ++ codes "\n"
+
+-- its name and its channel
+abbrev pub letter_text : LetterId → ℕ → List ℕ
+letter_text id chan = letter_after [] id ++ codes " on " ++ decimal chan ++ codes ":"
+
 -- a waiting letter with its words and its timestamp, `S.K on C: W .. @ T ..`
 abbrev pub waiting_line : ℕ → Message → (ℕ → ℕ) → List ℕ
-waiting_line n m parts =
-    letter_after [] m.id ++ codes " on " ++ decimal m.chan ++ codes ":" ++ flat_map word_text m.words ++ codes " @"
-    ++ parts_text n parts ++ codes "\n"
+waiting_line n m parts = letter_text m.id m.chan ++ flat_map word_text m.words ++ stamp_text n parts
+
+abbrev pub clock_text : ℕ → List ℕ
+clock_text p = codes "clock " ++ decimal p ++ codes ":"
 
 -- the clock of process p among n
 abbrev pub clock_line : ℕ → ℕ → (ℕ → ℕ) → List ℕ
-clock_line p n parts = codes "clock " ++ decimal p ++ codes ":" ++ parts_text n parts ++ codes "\n"
+clock_line p n parts = clock_text p ++ parts_text n parts ++ codes "\n"
 
 -- ---- watchers
 
