@@ -1,5 +1,5 @@
 -- The replies of a debugger, as functions of plain values. Every line ends with one newline.
-use Rattle.std.specs.Prelude.{ℕ, ◌+◌, List, [], ◌∷◌, ◌++◌, length, codes, Option, Some, None}
+use Rattle.std.specs.Prelude.{◌≡◌, ℕ, ◌<◌, List, [], ◌++◌, length, codes, Option, Some, None}
 use Rattle.std.specs.List.{flat_map, range_with_len}
 use Rattle.std.specs.Fmt.{decimal, signed_decimal}
 use Rattle.nm_base.specs.declared.kind.Kind.{Kind}
@@ -123,6 +123,10 @@ part_text parts q = codes " " ++ decimal (parts q)
 -- the parts of n processes
 abbrev pub parts_text : ℕ → (ℕ → ℕ) → List ℕ
 parts_text n parts = flat_map (part_text parts) (range_with_len 0 n)
+
+-- the same parts of n processes
+abbrev pub AgreeBelow : ℕ → (ℕ → ℕ) → (ℕ → ℕ) → Type 0
+AgreeBelow n parts other = (q : ℕ) → q < n → parts q ≡ other q
 
 -- a timestamp behind a letter
 abbrev pub stamp_text : ℕ → (ℕ → ℕ) → List ℕ

@@ -1,10 +1,11 @@
 //! Letters that wait, and clocks.
 
-ghost use Rattle.std.specs.Prelude.{◌≡◌, slice_index, take};
+ghost use Rattle.std.specs.Prelude.{◌≡◌, ℕ, slice_index, take};
 ghost use Rattle.std.specs.List.{flat_map};
 ghost use Rattle.nm_base.specs.Message.{message_of};
 ghost use Rattle.report.specs.Printing.{Prints};
 ghost use Rattle.report.specs.Replies as replies;
+ghost use Rattle.report.specs.Replies.{AgreeBelow};
 
 use crate::put::put_pieces;
 use itoa::Buffer;
@@ -64,6 +65,14 @@ fn put_words<O: Sink>(out: &mut O, words: &[u32]) -> Result<(), Failed>
     Ok(())
 }
 
+// The words that a letter has.
+fn put_letter_words<O: Sink>(out: &mut O, letter: &Letter) -> Result<(), Failed>
+    ensures { Prints (O.given out.old) (O.given out.new) (O.faults out.old) (O.faults out.new)
+        (flat_map replies.word_text (take letter.now.len letter.now.words)) result }
+{
+    put_words(out, words_of(letter))
+}
+
 // The part of a process in a timestamp.
 fn part_of(stamp: &Stamp, process: u8) -> u32
     ensures { result ≡ slice_index stamp.now.parts process }
@@ -105,15 +114,24 @@ fn put_stamp<O: Sink>(out: &mut O, n: u8, stamp: &Stamp) -> Result<(), Failed>
     put_pieces(out, &[b"\n"])
 }
 
-/// The line of a letter that waits: its name, its channel, its words, and the timestamp of its send
-/// for n processes.
-pub fn waiting_line<O: Sink>(out: &mut O, n: u8, letter: &Letter) -> Result<(), Failed>
+// A letter that waits, with the parts of its timestamp.
+fn put_waiting<O: Sink>(out: &mut O, n: u8, letter: &Letter) -> Result<(), Failed>
     ensures { Prints (O.given out.old) (O.given out.new) (O.faults out.old) (O.faults out.new)
         (replies.waiting_line n (message_of letter.now) (slice_index letter.now.stamp.parts)) result }
 {
     put_letter(out, letter.id, letter.chan)?;
-    put_words(out, words_of(letter))?;
+    put_letter_words(out, letter)?;
     put_stamp(out, n, &letter.stamp)
+}
+
+/// The line of a letter that waits: its name, its channel, its words, and the timestamp of its send
+/// for n processes.
+pub fn waiting_line<O: Sink>(out: &mut O, n: u8, letter: &Letter) -> Result<(), Failed>
+    ensures { (parts : ℕ → ℕ) → AgreeBelow n (slice_index letter.now.stamp.parts) parts
+        → Prints (O.given out.old) (O.given out.new) (O.faults out.old) (O.faults out.new)
+        (replies.waiting_line n (message_of letter.now) parts) result }
+{
+    put_waiting(out, n, letter)
 }
 
 // Whose clock it is.
@@ -125,8 +143,8 @@ fn put_clock<O: Sink>(out: &mut O, process: u8) -> Result<(), Failed>
     put_pieces(out, &[b"clock ", digits.format(process).as_bytes(), b":"])
 }
 
-/// The line of a process's clock, with the parts of n processes.
-pub fn clock_line<O: Sink>(
+// The clock of a process, with its parts.
+fn put_clock_parts<O: Sink>(
     out: &mut O,
     process: u8,
     n: u8,
@@ -138,4 +156,18 @@ pub fn clock_line<O: Sink>(
     put_clock(out, process)?;
     put_parts(out, n, stamp)?;
     put_pieces(out, &[b"\n"])
+}
+
+/// The line of a process's clock, with the parts of n processes.
+pub fn clock_line<O: Sink>(
+    out: &mut O,
+    process: u8,
+    n: u8,
+    stamp: &Stamp,
+) -> Result<(), Failed>
+    ensures { (parts : ℕ → ℕ) → AgreeBelow n (slice_index stamp.now.parts) parts
+        → Prints (O.given out.old) (O.given out.new) (O.faults out.old) (O.faults out.new)
+        (replies.clock_line process n parts) result }
+{
+    put_clock_parts(out, process, n, stamp)
 }

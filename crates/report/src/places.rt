@@ -18,6 +18,15 @@ pub fn at_line<O: Sink>(out: &mut O, events: u32) -> Result<(), Failed>
     put_number(out, b"at ", events, b" events\n")
 }
 
+// Which process it is.
+fn put_process<O: Sink>(out: &mut O, process: u8) -> Result<(), Failed>
+    ensures { Prints (O.given out.old) (O.given out.new) (O.faults out.old) (O.faults out.new)
+        (replies.of_process process) result }
+{
+    let mut digits = Buffer::new();
+    put_pieces(out, &[b"process ", digits.format(process).as_bytes(), b" "])
+}
+
 // The line at which a process is, and its events.
 fn put_place<O: Sink>(out: &mut O, line: u32, events: u32, count: u32) -> Result<(), Failed>
     ensures { Prints (O.given out.old) (O.given out.new) (O.faults out.old) (O.faults out.new)
@@ -53,7 +62,7 @@ pub fn where_line<O: Sink>(
     ensures { Prints (O.given out.old) (O.given out.new) (O.faults out.old) (O.faults out.new)
         (replies.where_line process look line events count) result }
 {
-    put_number(out, b"process ", u32::from(process), b" ")?;
+    put_process(out, process)?;
     put_status(out, look)?;
     put_place(out, line, events, count)
 }
