@@ -1,2 +1,4 @@
 pub mod Lines
-pub mod Sessions
+pub mod Breaks
+pub mod Latest
+pub mod private

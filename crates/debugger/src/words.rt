@@ -1,8 +1,9 @@
 //! The words of a line.
 
-ghost use Rattle.std.specs.Prelude.{◌≡◌};
+ghost use Rattle.std.specs.Prelude.{◌≡◌, not, length, drop, take_while};
+ghost use Rattle.std.specs.List.{prefix_len};
 ghost use Rattle.debugger.specs.Lines.{is_blank, words_of};
-ghost use Rattle.debugger.specs.private.Words.{after_blanks, first_words, word_length};
+ghost use Rattle.debugger.specs.private.Words.{first_words, is_visible};
 
 // Whether a byte separates words.
 fn is_blank(b: u8) -> bool
@@ -11,37 +12,27 @@ fn is_blank(b: u8) -> bool
     b == b' ' || b == b'\t'
 }
 
-// The text from its first word on.
-fn skip_blanks(text: &[u8]) -> &[u8]
-    ensures { result.now ≡ after_blanks text.now }
+// How many blanks a text begins with.
+fn blank_length(text: &[u8]) -> usize
+    ensures { result ≡ length (take_while is_blank text.now) }
 {
-    for (i, b) in text.iter().enumerate() {
-        if !is_blank(*b) {
-            return &text[i..];
-        }
-    }
-    b""
+    text.iter().take_while(|b| is_blank(**b)).count()
 }
 
 // How many bytes stand before the first blank.
 fn word_length(text: &[u8]) -> usize
-    ensures { result ≡ word_length text.now }
+    ensures { result ≡ length (take_while is_visible text.now) }
 {
-    for (i, b) in text.iter().enumerate() {
-        if is_blank(*b) {
-            return i;
-        }
-    }
-    text.len()
+    text.iter().take_while(|b| !is_blank(**b)).count()
 }
 
 /// The first word, and the text behind it.
 pub(crate) fn first_word(text: &[u8]) -> Option<(&[u8], &[u8])>
     ensures { words_of text.now ≡ first_words result }
 {
-    let text = skip_blanks(text);
-    if text.is_empty() {
+    let seen = text.split_at(blank_length(text)).1;
+    if seen.is_empty() {
         return None;
     }
-    Some(text.split_at(word_length(text)))
+    Some(seen.split_at(word_length(seen)))
 }

@@ -1,8 +1,7 @@
 -- What a line that was read asks.
-use Rattle.std.specs.Prelude.{ℕ, ◌<◌, nat_lt, List, Option, Some, None, if◌then◌else◌, ⊤}
+use Rattle.std.specs.Prelude.{ℕ, ◌<◌, nat_lt, List, codes, Option, Some, None, if◌then◌else◌, ⊤}
 use Rattle.std.specs.Option.{option_map, option_map_or}
 use Rattle.std.specs.Str.{bytes_eq}
-use Rattle.std.specs.Prelude.{codes}
 use Rattle.nm_base.specs.Decimal.{number_of}
 use Rattle.report.specs.declared.replies.Spot.{Spot}
 use Rattle.report.specs.declared.replies.Spot.TheVariants as spot
@@ -12,7 +11,7 @@ use Rattle.debugger.specs.declared.rows.Who.{Who}
 use Rattle.debugger.specs.declared.rows.Who.TheVariants as who
 use Rattle.debugger.specs.declared.rows.Look.{Look}
 use Rattle.debugger.specs.declared.rows.Look.TheVariants as look
-use Rattle.debugger.specs.Lines.{Asked, Nothing, NotALine, NotAProcess, SetBreak, Clear, Step, StepOf, Run, Back, Print, Frames, Where, Output, Mail, Clock, Last, Watch, Detach, Stop, Avoid, Compare, Quit, without_process}
+use Rattle.debugger.specs.Lines.{Asked, Nothing, NotALine, NotAProcess, SetBreak, Clear, Step, StepOf, Run, Back, Print, Frames, Where, Output, Mail, Clock, Last, Watch, Detach, Stop, Avoid, Compare, Quit, without_process, with_number, with_process}
 
 abbrev pub asked : Line → Asked
 asked line.Nothing = Nothing
@@ -80,3 +79,8 @@ asks look.Frames = Frames
 asks look.Output = Output
 asks look.Mail = Mail
 asks look.Clock = Clock
+
+-- what a line asks that compares event k of one process with event j of another
+abbrev pub order_of : ℕ → List ℕ → List ℕ → List ℕ → List ℕ → Asked
+order_of n a b c d =
+    with_process n a (λ p. with_number b (λ k. with_process n c (λ q. with_number d (Compare p k q))))
