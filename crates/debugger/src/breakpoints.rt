@@ -1,6 +1,6 @@
 //! Breakpoints.
 
-ghost use Rattle.std.specs.Prelude.{◌≡◌, None, position, replicate, slice_get};
+ghost use Rattle.std.specs.Prelude.{◌≡◌, ◌<◌, None, IfSome, length, position, replicate, slice_get};
 ghost use Rattle.debugger.specs.Breaks.{cleared_in, fits_after, fits_next, is_free, is_taken, set_in};
 
 use nm_base::{Kind, ProcNo};
@@ -53,6 +53,48 @@ fn fits(place: Option<Break>, p: ProcNo, kind: Kind, next: Option<u32>) -> bool
     }
 }
 
+// Whether a place is free.
+fn is_free(place: Option<Break>) -> bool
+    ensures { result ≡ is_free place }
+{
+    match place {
+        None => true,
+        Some(_) => false,
+    }
+}
+
+// The lowest free place.
+fn first_free(places: &[Option<Break>]) -> Option<usize>
+    ensures place { result ≡ position is_free places.now }
+    ensures within { IfSome result (λ k. k < length places.now) }
+{
+    places.iter().position(|place| is_free(*place))
+}
+
+// The lowest place whose breakpoint fits.
+fn first_fitting(
+    places: &[Option<Break>],
+    p: ProcNo,
+    kind: Kind,
+    next: Option<u32>,
+) -> Option<usize>
+    ensures place { result ≡ position (fits_after p.no kind next) places.now }
+    ensures within { IfSome result (λ k. k < length places.now) }
+{
+    places.iter().position(|place| fits(*place, p, kind, next))
+}
+
+// A place, as a number of 32 bits.
+fn numbered(place: Option<usize>) -> Option<u32>
+    requires { IfSome place (λ k. k < MAX_BREAKS) }
+    ensures { result ≡ place }
+{
+    match place {
+        None => None,
+        Some(k) => Some(k as u32),
+    }
+}
+
 impl Breakpoints {
     /// All places are free.
     pub(crate) fn new() -> Breakpoints
@@ -63,28 +105,16 @@ impl Breakpoints {
         }
     }
 
-    // The lowest free place.
-    fn free(&self) -> Option<u32>
-        ensures { result ≡ position is_free self.now }
-    {
-        for (k, place) in self.places.iter().enumerate() {
-            if place.is_none() {
-                return Some(k as u32);
-            }
-        }
-        None
-    }
-
     /// Takes the lowest free place for a breakpoint, and says which. Without one nothing is done.
     pub(crate) fn set(&mut self, b: Break) -> Option<u32>
         ensures place { result ≡ position is_free self.old }
         ensures places { self.new ≡ set_in self.old b (position is_free self.old) }
     {
-        let place = self.free();
+        let place = first_free(self.places.as_slice());
         if let Some(k) = place {
-            self.places[k as usize] = Some(b);
+            self.places[k] = Some(b);
         }
-        place
+        numbered(place)
     }
 
     /// Frees a place, and says whether it was taken.
@@ -92,7 +122,7 @@ impl Breakpoints {
         ensures taken { result ≡ is_taken (slice_get self.old k) }
         ensures places { self.new ≡ cleared_in self.old k (slice_get self.old k) }
     {
-        match self.places.get(k as usize) {
+        match self.places.get(k as usize).copied() {
             Some(Some(_)) => {
                 self.places[k as usize] = None;
                 true
@@ -106,11 +136,6 @@ impl Breakpoints {
     pub(crate) fn fitting(&self, p: ProcNo, kind: Kind, next: Option<u32>) -> Option<u32>
         ensures { result ≡ position (fits_after p.no kind next) self.now }
     {
-        for (k, place) in self.places.iter().enumerate() {
-            if fits(*place, p, kind, next) {
-                return Some(k as u32);
-            }
-        }
-        None
+        numbered(first_fitting(self.places.as_slice(), p, kind, next))
     }
 }
