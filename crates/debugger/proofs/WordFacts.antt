@@ -14,43 +14,42 @@ abbrev Begins : List ℕ → Type 0
 Begins [] = ⊤
 Begins (b ∷ text) = is_blank b ≡ false
 
+-- the same by what is known of the first byte
+abbrev Skipped : ℕ → List ℕ → ℕ → Bool → Type 0
+Skipped b text n t =
+    Begins (drop (cond t (1 + n) 0) (b ∷ text))
+    × ((if t then words_of text else word_before b (begins_word text) (words_of text)) ≡ words_of (drop (cond t (1 + n) 0) (b ∷ text)))
+
+skips : (b : ℕ) (text : List ℕ) (n : ℕ) (t : Bool) → is_blank b ≡ t → Begins (drop n text) × (words_of text ≡ words_of (drop n text)) → Skipped b text n (is_blank b)
+skips b text n true e later =
+    let next : suc n ≡ 1 + n = omega arith in
+    subst (Skipped b text n) (sym e) (subst (λ k. Begins (drop k (b ∷ text)) × (words_of text ≡ words_of (drop k (b ∷ text)))) next later)
+skips b text n false e later =
+    subst (Skipped b text n) (sym e) (e, sym (ap (λ t. if t then words_of text else word_before b (begins_word text) (words_of text)) e))
+
 blanks_skipped : (text : List ℕ) → Begins (drop (prefix_len is_blank text) text) × (words_of text ≡ words_of (drop (prefix_len is_blank text) text))
 blanks_skipped [] = (tt, refl)
-blanks_skipped (b ∷ text) = by (is_blank b) refl (blanks_skipped text)
-  where
-    abbrev n : ℕ
-    n = prefix_len is_blank text
-    abbrev Skipped : Bool → Type 0
-    Skipped t =
-        Begins (drop (cond t (1 + n) 0) (b ∷ text))
-        × ((if t then words_of text else word_before b (begins_word text) (words_of text)) ≡ words_of (drop (cond t (1 + n) 0) (b ∷ text)))
-    by : (t : Bool) → is_blank b ≡ t → Begins (drop n text) × (words_of text ≡ words_of (drop n text)) → Skipped (is_blank b)
-    by true e later =
-        let next : suc n ≡ 1 + n = omega arith in
-        subst Skipped (sym e) (subst (λ k. Begins (drop k (b ∷ text)) × (words_of text ≡ words_of (drop k (b ∷ text)))) next later)
-    by false e later =
-        subst Skipped (sym e) (e, sym (ap (λ t. if t then words_of text else word_before b (begins_word text) (words_of text)) e))
+blanks_skipped (b ∷ text) = skips b text (prefix_len is_blank text) (is_blank b) refl (blanks_skipped text)
+
+-- the first word of a text that begins with one, by what is known of its second byte
+abbrev Split : ℕ → ℕ → List ℕ → ℕ → Bool → Type 0
+Split b c text n t =
+    word_before b (if t then false else true) (words_of (c ∷ text))
+    ≡ (b ∷ take (cond (not t) (1 + n) 0) (c ∷ text)) ∷ words_of (drop (cond (not t) (1 + n) 0) (c ∷ text))
+
+splits : (b c : ℕ) (text : List ℕ) (n : ℕ) (t : Bool) → is_blank c ≡ t → (is_blank c ≡ false → words_of (c ∷ text) ≡ (c ∷ take n text) ∷ words_of (drop n text))
+    → Split b c text n (is_blank c)
+splits b c text n true e later = subst (Split b c text n) (sym e) refl
+splits b c text n false e later =
+    let next : suc n ≡ 1 + n = omega arith in
+    subst (Split b c text n) (sym e) (ap (word_before b true) (later e) ∙ ap (λ m. (b ∷ take m (c ∷ text)) ∷ words_of (drop m (c ∷ text))) next)
 
 -- a text that begins with a word
 split_at : (b : ℕ) (text : List ℕ) → is_blank b ≡ false → words_of (b ∷ text) ≡ (b ∷ take (visible text) text) ∷ words_of (drop (visible text) text)
 split_at b [] e = ap (λ t. if t then words_of [] else word_before b (begins_word []) (words_of [])) e
-split_at b (c ∷ text) e = first ∙ by (is_blank c) refl (split_at c text)
-  where
-    abbrev n : ℕ
-    n = visible text
-    abbrev words : List (List ℕ)
-    words = words_of (c ∷ text)
-    first : words_of (b ∷ c ∷ text) ≡ word_before b (begins_word (c ∷ text)) words
-    first = ap (λ t. if t then words else word_before b (begins_word (c ∷ text)) words) e
-    abbrev Split : Bool → Type 0
-    Split t =
-        word_before b (if t then false else true) words
-        ≡ (b ∷ take (cond (not t) (1 + n) 0) (c ∷ text)) ∷ words_of (drop (cond (not t) (1 + n) 0) (c ∷ text))
-    by : (t : Bool) → is_blank c ≡ t → (is_blank c ≡ false → words ≡ (c ∷ take n text) ∷ words_of (drop n text)) → Split (is_blank c)
-    by true k later = subst Split (sym k) refl
-    by false k later =
-        let next : suc n ≡ 1 + n = omega arith in
-        subst Split (sym k) (ap (word_before b true) (later k) ∙ ap (λ m. (b ∷ take m (c ∷ text)) ∷ words_of (drop m (c ∷ text))) next)
+split_at b (c ∷ text) e =
+    ap (λ t. if t then words_of (c ∷ text) else word_before b (begins_word (c ∷ text)) (words_of (c ∷ text))) e
+    ∙ splits b c text (visible text) (is_blank c) refl (split_at c text)
 
 word_split : (seen : List ℕ) → Begins seen → 0 < length seen → words_of seen ≡ take (visible seen) seen ∷ words_of (drop (visible seen) seen)
 word_split [] begins some = absurd (omega (arith, some))

@@ -1,6 +1,6 @@
 //! Breakpoints.
 
-ghost use Rattle.std.specs.Prelude.{◌≡◌, ◌<◌, None, IfSome, length, position, replicate, slice_get};
+ghost use Rattle.std.specs.Prelude.{◌≡◌, ◌<◌, None, IfSome, position, replicate, slice_get};
 ghost use Rattle.debugger.specs.Breaks.{cleared_in, fits_after, fits_next, is_free, is_taken, set_in};
 
 use nm_base::{Kind, ProcNo};
@@ -64,22 +64,22 @@ fn is_free(place: Option<Break>) -> bool
 }
 
 // The lowest free place.
-fn first_free(places: &[Option<Break>]) -> Option<usize>
+fn first_free(places: &[Option<Break>; MAX_BREAKS]) -> Option<usize>
     ensures place { result ≡ position is_free places.now }
-    ensures within { IfSome result (λ k. k < length places.now) }
+    ensures within { IfSome result (λ k. k < MAX_BREAKS) }
 {
     places.iter().position(|place| is_free(*place))
 }
 
 // The lowest place whose breakpoint fits.
 fn first_fitting(
-    places: &[Option<Break>],
+    places: &[Option<Break>; MAX_BREAKS],
     p: ProcNo,
     kind: Kind,
     next: Option<u32>,
 ) -> Option<usize>
     ensures place { result ≡ position (fits_after p.no kind next) places.now }
-    ensures within { IfSome result (λ k. k < length places.now) }
+    ensures within { IfSome result (λ k. k < MAX_BREAKS) }
 {
     places.iter().position(|place| fits(*place, p, kind, next))
 }
@@ -110,7 +110,7 @@ impl Breakpoints {
         ensures place { result ≡ position is_free self.old }
         ensures places { self.new ≡ set_in self.old b (position is_free self.old) }
     {
-        let place = first_free(self.places.as_slice());
+        let place = first_free(&self.places);
         if let Some(k) = place {
             self.places[k] = Some(b);
         }
@@ -136,6 +136,6 @@ impl Breakpoints {
     pub(crate) fn fitting(&self, p: ProcNo, kind: Kind, next: Option<u32>) -> Option<u32>
         ensures { result ≡ position (fits_after p.no kind next) self.now }
     {
-        numbered(first_fitting(self.places.as_slice(), p, kind, next))
+        numbered(first_fitting(&self.places, p, kind, next))
     }
 }

@@ -22,6 +22,7 @@ pub(crate) struct Latest {
 impl Model for Latest {
     ghost use Rattle.std.specs.Prelude.{◌≡◌, List};
     ghost use Rattle.event_list.specs.declared.Event.{Event};
+    ghost use Rattle.debugger.specs.declared.latest.TheConstants.{MAX_LATEST};
 
     ghost Value = { List Event };
 
