@@ -1,3 +1,2 @@
 pub mod WordFacts
 pub mod RowFacts
-pub mod LatestFacts

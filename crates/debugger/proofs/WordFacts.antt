@@ -1,6 +1,7 @@
 -- A text's words are its first word and the words behind it.
 use Rattle.std.proofs.Common.{◌≡◌, ℕ, suc, ◌+◌, ◌<◌, Bool, true, false, cond, List, [], ◌∷◌, length, take, drop, refl, sym, ap, ◌∙◌, subst, arith}
-use Rattle.std.specs.Prelude.{not, take_while, ⊤, if◌then◌else◌}
+use Rattle.std.specs.Prelude.{◌==◌, not, take_while, ⊤, if◌then◌else◌}
+use Rattle.std.proofs.lemmas.Bool.{false≢true, eqb-true}
 use Rattle.std.specs.List.{prefix_len}
 use Rattle.std.proofs.lemmas.List.Folds.{length-prefix_len}
 use Rattle.debugger.specs.Lines.{is_blank, begins_word, word_before, words_of}
@@ -74,3 +75,14 @@ module _ (text seen : List ℕ) (k : ℕ) (blanks : k ≡ length (take_while is_
       let begins = subst Begins (sym seen_is) (blanks_skipped text).0 in
       same_words ∙ word_split seen begins some ∙ ap (λ m. take m seen ∷ words_of (drop m seen)) at
       ∙ ap (λ (w : List ℕ). w ∷ words_of (drop n seen)) (sym taken) ∙ ap (λ (r : List ℕ). word ∷ words_of r) (sym dropped)
+
+-- nothing is seen, by a test of the length
+pub none_seen : (seen : List ℕ) (t : Bool) → t ≡ (length seen == 0) → t ≡ true → seen ≡ []
+none_seen [] t is e = refl
+none_seen (b ∷ text) t is e =
+    let none : suc (length text) ≡ 0 = eqb-true (suc (length text)) 0 (sym is ∙ e) in
+    absurd (omega (arith, none))
+
+pub some_seen : (seen : List ℕ) (t : Bool) → t ≡ (length seen == 0) → t ≡ false → 0 < length seen
+some_seen [] t is e = absurd (false≢true (sym e ∙ is))
+some_seen (b ∷ text) t is e = omega arith

@@ -11,5 +11,5 @@ returns-in-None-number-clause-asked c = order_half c.args.n c.args.a.now c.args.
 pub returns-in-Some-number-clause-asked : goal.returns-in-Some-number-clause-asked
 returns-in-Some-number-clause-asked c =
     c.compare_of.ensures.asked
-    ∙ order_both c.args.n c.args.a.now c.args.b.now c.args.c.now c.args.d.now c.in-Some.k c.in-Some-number.j c.who_in.result c.who_in-2.result c.in-Some.ensures c.in-Some-number.ensures
-    c.who_in.ensures.who c.who_in-2.ensures.who
+    ∙ order_both c.args.n c.args.a.now c.args.b.now c.args.c.now c.args.d.now c.in-Some.k c.in-Some-number.j c.who_in.result c.who_in-in-Some-number.result c.in-Some.ensures c.in-Some-number.ensures
+    c.who_in.ensures.who c.who_in-in-Some-number.ensures.who
