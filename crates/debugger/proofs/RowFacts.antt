@@ -20,6 +20,7 @@ process_by n word ask = by (number_of word)
     test : (p : ℕ) (t : Bool) → (if t then ask p else without_process (ask p)) ≡ by_who (if t then who.Present (record { no = p }) else who.Absent p) ask
     test p true = refl
     test p false = refl
+
     by : (o : Option ℕ)
         → option_map_or (λ p. if nat_lt p n then ask p else without_process (ask p)) o NotALine
         ≡ by_who (option_map_or (λ p. if nat_lt p n then who.Present (record { no = p }) else who.Absent p) o who.NoNumber) ask
@@ -58,6 +59,7 @@ break_is at p = by (bytes_eq at (codes "recv"))
     lines : (o : Option ℕ) → option_map_or (λ l. SetBreak p (spot.Line l)) o NotALine ≡ option_map_or (SetBreak p) (option_map spot.Line o) NotALine
     lines None = refl
     lines (Some l) = refl
+
     by : (t : Bool)
         → (if t then SetBreak p spot.Receive else with_number at (λ l. SetBreak p (spot.Line l)))
         ≡ option_map_or (SetBreak p) (if t then Some spot.Receive else option_map spot.Line (number_of at)) NotALine

@@ -93,14 +93,7 @@ pub(crate) enum Line<'a> {
 }
 
 // A line of at least four words.
-fn past_four<'a>(
-    n: u8,
-    verb: &[u8],
-    a: &[u8],
-    b: &'a [u8],
-    c: &[u8],
-    text: &[u8],
-) -> Line<'a>
+fn past_four<'a>(n: u8, verb: &[u8], a: &[u8], b: &'a [u8], c: &[u8], text: &[u8]) -> Line<'a>
     ensures asked { asked result ≡ asked_by n (verb.now ∷ a.now ∷ b.now ∷ c.now ∷ words_of text.now) }
     ensures among { IsAmong n result }
 {

@@ -15,12 +15,8 @@ pub(crate) enum Who {
     /// It is no number.
     NoNumber,
     /// No process has it.
-    Absent {
-        number: u32,
-    },
-    Present {
-        p: ProcNo,
-    },
+    Absent { number: u32 },
+    Present { p: ProcNo },
 }
 
 /// What a line of two words asks of one process.
@@ -362,14 +358,7 @@ pub(crate) fn of_four<'a>(n: u8, verb: &[u8], a: &[u8], b: &'a [u8], c: &[u8]) -
 }
 
 /// A line of five words.
-pub(crate) fn of_five<'a>(
-    n: u8,
-    verb: &[u8],
-    a: &[u8],
-    b: &[u8],
-    c: &[u8],
-    d: &[u8],
-) -> Line<'a>
+pub(crate) fn of_five<'a>(n: u8, verb: &[u8], a: &[u8], b: &[u8], c: &[u8], d: &[u8]) -> Line<'a>
     ensures asked { asked result ≡ lines.asked_by_five n verb.now a.now b.now c.now d.now }
     ensures among { IsAmong n result }
 {
