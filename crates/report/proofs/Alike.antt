@@ -1,5 +1,5 @@
 -- The texts of timestamps with equal parts are equal.
-use Rattle.std.proofs.Common.{◌≡◌, ℕ, zero, suc, ◌<◌, ◌++◌, sym, ap, ◌∙◌, arith, codes, List}
+use Rattle.std.proofs.Common.{◌≡◌, ℕ, zero, suc, ◌++◌, sym, ap, ◌∙◌, arith, codes, List}
 use Rattle.std.specs.List.{flat_map, range_with_len}
 use Rattle.nm_base.specs.Message.{Message}
 use Rattle.report.specs.Replies.{AgreeBelow, part_text, parts_text, waiting_line, clock_line, letter_text, word_text, clock_text}

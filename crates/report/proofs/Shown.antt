@@ -1,14 +1,10 @@
 -- What a process of the world shows is what the program says.
-use Rattle.std.proofs.Common.{◌≡◌, ℕ, zero, suc, ◌+◌, ◌<◌, List, [], ◌∷◌, ◌++◌, length, Option, Some, Result, Ok, Err, sym, ap, ◌∙◌, subst, inl, inr, arith, append_assoc, append-nil, add-one}
-use Rattle.std.specs.Prelude.{slice_get, ⊤, ◌⊎◌}
-use Rattle.std.specs.Result.{IsErr}
-use Rattle.std.specs.List.{flat_map, range_with_len}
+use Rattle.std.proofs.Common.{◌≡◌, ℕ, List, length, Option, Some, Result, sym, ap, ◌∙◌, subst}
+use Rattle.std.specs.Prelude.{slice_get, ⊤}
 use Rattle.nm_outside.specs.declared.cabinet.Failed.{Failed}
 use Rattle.processes.specs.declared.proc.Look.{Look}
 use Rattle.report.specs.Printing.{Prints}
 use Rattle.report.specs.Texts.{block, summary}
-use Rattle.report.proofs.Pieces.{prints_more, still_failed, failed_on}
-use Rattle.report.proofs.Each.{flat_append}
 use Rattle.nm_base.specs.declared.letter.ProcNo.{ProcNo}
 use Rattle.nm_base.specs.Message.{Message}
 use Rattle.c_tree.specs.declared.program.Program.{Program}

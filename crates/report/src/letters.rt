@@ -144,12 +144,7 @@ fn put_clock<O: Sink>(out: &mut O, process: u8) -> Result<(), Failed>
 }
 
 // The clock of a process, with its parts.
-fn put_clock_parts<O: Sink>(
-    out: &mut O,
-    process: u8,
-    n: u8,
-    stamp: &Stamp,
-) -> Result<(), Failed>
+fn put_clock_parts<O: Sink>(out: &mut O, process: u8, n: u8, stamp: &Stamp) -> Result<(), Failed>
     ensures { Prints (O.given out.old) (O.given out.new) (O.faults out.old) (O.faults out.new)
         (replies.clock_line process n (slice_index stamp.now.parts)) result }
 {
@@ -159,12 +154,7 @@ fn put_clock_parts<O: Sink>(
 }
 
 /// The line of a process's clock, with the parts of n processes.
-pub fn clock_line<O: Sink>(
-    out: &mut O,
-    process: u8,
-    n: u8,
-    stamp: &Stamp,
-) -> Result<(), Failed>
+pub fn clock_line<O: Sink>(out: &mut O, process: u8, n: u8, stamp: &Stamp) -> Result<(), Failed>
     ensures { (parts : ℕ → ℕ) → AgreeBelow n (slice_index stamp.now.parts) parts
         → Prints (O.given out.old) (O.given out.new) (O.faults out.old) (O.faults out.new)
         (replies.clock_line process n parts) result }

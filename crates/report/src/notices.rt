@@ -54,13 +54,7 @@ pub fn watch_line<O: Sink>(out: &mut O, k: u32, said: &[u8]) -> Result<(), Faile
     let mut digits = Buffer::new();
     put_pieces(
         out,
-        &[
-            b"watch ",
-            digits.format(k).as_bytes(),
-            b": ",
-            said,
-            b"\n",
-        ],
+        &[b"watch ", digits.format(k).as_bytes(), b": ", said, b"\n"],
     )
 }
 

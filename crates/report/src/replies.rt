@@ -4,9 +4,7 @@
 #[derive(Clone, Copy, Debug, PartialEq, Eq)]
 pub enum Spot {
     /// After an event of its process whose next event is a Line of this line, counted from 1.
-    Line {
-        line: u32,
-    },
+    Line { line: u32 },
     /// After an event of its process that accepted a letter.
     Receive,
 }

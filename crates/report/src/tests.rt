@@ -1,10 +1,10 @@
 //! The texts, through a sink in memory.
 
 use crate::{
-    Notice, Refusal, Spot, at_line, block, broke_line, certificate, certificates_line, cleared_line,
-    clock_line, detached_line, event_line, frame_line, notice_line, output_text, refusal, set_line,
-    stopped_line, summary, trace_line, turns_line, upgraded_line, value_line, waiting_line,
-    watch_line, watched_line, watcher_line, where_line,
+    Notice, Refusal, Spot, at_line, block, broke_line, certificate, certificates_line,
+    cleared_line, clock_line, detached_line, event_line, frame_line, notice_line, output_text,
+    refusal, set_line, stopped_line, summary, trace_line, turns_line, upgraded_line, value_line,
+    waiting_line, watch_line, watched_line, watcher_line, where_line,
 };
 use cut_witness::{Witness, WitnessTurn};
 use event_list::Event;
