@@ -12,7 +12,7 @@ use Rattle.processes.specs.declared.proc.Look.TheVariants.{Able, Waiting, Ended,
 use Rattle.cut_witness.specs.declared.certificates.Witness.{Witness}
 use Rattle.cut_witness.specs.declared.certificates.WitnessTurn.{WitnessTurn}
 use Rattle.report.specs.declared.cause.Refusal.{Refusal}
-use Rattle.report.specs.declared.cause.Refusal.TheVariants.{Usage, Absent, ReadFault, TooLong, ProgramRefused, ScheduleRefused, TraceDamaged, OtherProgram, Stuck, Stopped, NotItsTrace}
+use Rattle.report.specs.declared.cause.Refusal.TheVariants.{Usage, Absent, ReadFault, InputFault, InputFull, TooLong, ProgramRefused, ScheduleRefused, TraceDamaged, OtherProgram, Stuck, Stopped, NotItsTrace}
 
 -- the lower-case hexadecimal digit for the four bits of a number from bit `low` on
 abbrev pub digit_of : ℕ → ℕ
@@ -52,12 +52,17 @@ cause_name DepthFull = codes "DepthFull"
 cause_name DataFull = codes "DataFull"
 cause_name OutputFull = codes "OutputFull"
 
--- how a process stands; the line is that of a fault
+-- how a process stands
+abbrev pub status_text : Look → List ℕ
+status_text Able = codes "able"
+status_text (Waiting set) = codes "waiting 0x" ++ hex_digits set
+status_text (Ended value) = codes "ended " ++ signed_decimal value
+status_text (Faulted cause) = codes "faulted " ++ cause_name cause
+
+-- the same, with the line of a fault
 abbrev pub look_text : Look → ℕ → List ℕ
-look_text Able line = codes "able"
-look_text (Waiting set) line = codes "waiting 0x" ++ hex_digits set
-look_text (Ended value) line = codes "ended " ++ signed_decimal value
-look_text (Faulted cause) line = codes "faulted " ++ cause_name cause ++ codes " at line " ++ decimal line
+look_text (Faulted cause) line = status_text (Faulted cause) ++ codes " at line " ++ decimal line
+look_text other line = status_text other
 
 abbrev pub process_text : ℕ → List ℕ
 process_text p = codes "== process " ++ decimal p ++ codes " "
@@ -89,6 +94,10 @@ sizes_line start notes lost bytes =
 
 abbrev pub trace_line : ℕ → ℕ → ℕ → List ℕ
 trace_line notes lost bytes = sizes_line (codes "== trace notes ") notes lost bytes
+
+-- what watcher k says at the end of a replay
+abbrev pub watched_line : ℕ → List ℕ → List ℕ
+watched_line k said = codes "== watch " ++ decimal k ++ codes ": " ++ said ++ codes "\n"
 
 abbrev pub turns_line : ℕ → ℕ → List ℕ
 turns_line turns idle = codes "== turns " ++ decimal turns ++ codes ", idle " ++ decimal idle ++ codes "\n"
@@ -160,6 +169,14 @@ absent_line name = name_line (codes "absent: ") name
 abbrev pub read_fault_line : List ℕ → List ℕ
 read_fault_line name = name_line (codes "read fault: ") name
 
+-- the lines of a debugger can't be read
+abbrev pub input_fault_line : List ℕ
+input_fault_line = codes "read fault: input\n"
+
+-- they pass their limit
+abbrev pub input_full_line : List ℕ
+input_full_line = codes "input full\n"
+
 abbrev pub too_long_line : List ℕ → List ℕ
 too_long_line name = name_line (codes "too long: ") name
 
@@ -192,6 +209,8 @@ abbrev pub refusal_line : Refusal → List ℕ
 refusal_line Usage = usage_line
 refusal_line (Absent name) = absent_line name.now
 refusal_line (ReadFault name) = read_fault_line name.now
+refusal_line InputFault = input_fault_line
+refusal_line InputFull = input_full_line
 refusal_line (TooLong name) = too_long_line name.now
 refusal_line (ProgramRefused kind line) = program_refused_line kind.now line
 refusal_line (ScheduleRefused kind place) = schedule_refused_line kind.now place

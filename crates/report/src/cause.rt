@@ -15,6 +15,10 @@ pub enum Refusal<'a> {
     ReadFault {
         name: &'a str,
     },
+    /// The lines of a debugger can't be read.
+    InputFault,
+    /// The lines of a debugger pass their limit.
+    InputFull,
     /// The file passes its limit.
     TooLong {
         name: &'a str,

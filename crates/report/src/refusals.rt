@@ -74,6 +74,8 @@ pub fn refusal<O: Sink>(out: &mut O, r: &Refusal<'_>) -> Result<(), Failed>
         Refusal::Usage => put_pieces(out, &[b"usage\n"]),
         Refusal::Absent { name } => put_name(out, b"absent: ", name),
         Refusal::ReadFault { name } => put_name(out, b"read fault: ", name),
+        Refusal::InputFault => put_pieces(out, &[b"read fault: input\n"]),
+        Refusal::InputFull => put_pieces(out, &[b"input full\n"]),
         Refusal::TooLong { name } => put_name(out, b"too long: ", name),
         Refusal::ProgramRefused { kind, line } => {
             put_kind(out, b"program refused: ", kind, b" at line ", *line)

@@ -1,0 +1,4 @@
+pub mod Lines
+pub mod Breaks
+pub mod Latest
+pub mod private

@@ -1,0 +1,337 @@
+-- A session of the debugger: a replay that goes forwards and back, and what each line replies and does. Nothing here
+-- knows of worlds that are kept, or of how a run is made again.
+use Rattle.std.specs.Prelude.{◌≡◌, ℕ, ◌+◌, ◌-◌, ◌%◌, ◌==◌, ◌&&◌, ◌||◌, nat_lt, nat_le, Bool, true, false, List, [], ◌∷◌, ◌++◌, length, map, take, drop, filter, replicate, Option, Some, None, slice_get, slice_set, position, if◌then◌else◌}
+use Rattle.std.specs.List.{flat_map, range_with_len}
+use Rattle.std.specs.Option.{option_map_or}
+use Rattle.nm_base.specs.declared.kind.Kind.{Kind}
+use Rattle.nm_base.specs.declared.kind.Kind.TheVariants.{Line, Accepted}
+use Rattle.nm_base.specs.Message.{Message}
+use Rattle.nm_base.specs.Scripts.{Next, Goes}
+use Rattle.c_tree.specs.declared.program.Program.{Program}
+use Rattle.c_tree.specs.declared.program.Function.{Function}
+use Rattle.c_tree.specs.State.{Frame}
+use Rattle.c_tree.specs.Play.{next, play_setting, script_of}
+use Rattle.c_tree.specs.NameLookup.{Seen, NoName, NeedsIndex, NoIndex, Sees, value_named}
+use Rattle.causal_stop.specs.declared.standing.Order.{Order}
+use Rattle.causal_stop.specs.declared.standing.Order.TheVariants as order
+use Rattle.causal_stop.specs.Stops.{Holds, Lacks, IsEntry, StandsIn}
+use Rattle.event_list.specs.declared.Event.{Event}
+use Rattle.event_list.specs.Events.{count, messages}
+use Rattle.event_list.specs.Clocks.{clocks}
+use Rattle.event_list.specs.Cuts.{cut_list, IsLeastCut, IsGreatestCut}
+use Rattle.event_list.specs.Order.{Cut}
+use Rattle.event_list.specs.Traces.{Trace, waiting}
+use Rattle.event_list.specs.Turns.{Turned, Stays, Went, Idle, IsOver, AtCount, NoLetter, go, all_reached, finish_of}
+use Rattle.c_process.specs.Shown.{played_after, look_after, line_after, output_after}
+use Rattle.report.specs.declared.replies.Spot.{Spot}
+use Rattle.report.specs.declared.replies.Spot.TheVariants as spot
+use Rattle.report.specs.declared.replies.Notice.{Notice}
+use Rattle.report.specs.declared.replies.Notice.TheVariants as notice
+use Rattle.report.specs.Replies.{event_line, set_line, cleared_line, broke_line, watcher_line, at_line, where_line, frame_line, value_line, output_text, waiting_line, clock_line, watch_line, detached_line, notice_line}
+use Rattle.watchers.specs.Watched.{Watched, Told}
+use Rattle.debugger.specs.declared.breakpoints.Break.{Break}
+use Rattle.debugger.specs.Lines.{Asked, Nothing, NotALine, NotAProcess, SetBreak, Clear, Step, StepOf, Run, Back, Print, Frames, Where, Output, Mail, Clock, Last, Watch, Detach, Stop, Avoid, Compare, Quit}
+
+-- ---- what a session is
+
+-- the run so far, the places for breakpoints, and all events that were made, those undone since included
+pub record Session : Type 0 where
+  pub run : List Event
+  pub breaks : List (Option Break)
+  pub made : List Event
+
+-- before the first line
+abbrev pub first_session : Session
+first_session = record { run = []; breaks = replicate 16 None; made = [] }
+
+-- with the event made last
+abbrev pub with_event : Session → Event → Session
+with_event s e = record { run = s.run ++ e ∷ []; breaks = s.breaks; made = s.made ++ e ∷ [] }
+
+-- a reply, and the session after it
+pub record Reply : Type 0 where
+  pub text : List ℕ
+  pub session : Session
+
+-- a reply that changes nothing
+abbrev pub says : Session → List ℕ → Reply
+says s text = record { text = text; session = s }
+
+abbrev pub notices : Session → Notice → Reply
+notices s what = says s (notice_line what)
+
+-- ---- breakpoints
+
+abbrev pub is_free : Option Break → Bool
+is_free None = true
+is_free (Some b) = false
+
+abbrev pub set_at : Session → Break → Option ℕ → Reply
+set_at s b None = notices s notice.Full
+set_at s b (Some k) = record {
+  text = set_line k b.proc.no b.at;
+  session = record { run = s.run; breaks = slice_set s.breaks k (Some b); made = s.made };
+}
+
+-- takes the lowest free place
+abbrev pub set_break : Session → Break → Reply
+set_break s b = set_at s b (position is_free s.breaks)
+
+abbrev pub clear_at : Session → ℕ → Option (Option Break) → Reply
+clear_at s k (Some (Some b)) = record {
+  text = cleared_line k;
+  session = record { run = s.run; breaks = slice_set s.breaks k None; made = s.made };
+}
+clear_at s k free = notices s notice.NoBreak
+
+-- frees a place
+abbrev pub clear_break : Session → ℕ → Reply
+clear_break s k = clear_at s k (slice_get s.breaks k)
+
+-- ---- going back
+
+-- K events fewer
+abbrev pub back_by : Session → ℕ → Reply
+back_by s k =
+    if nat_le k (length s.run) then record {
+      text = at_line (length s.run - k);
+      session = record { run = take (length s.run - k) s.run; breaks = s.breaks; made = s.made };
+    } else notices s notice.NoEvent
+
+-- ---- lines that only look
+
+-- the event lines of the last sixteen events that were made
+abbrev pub latest : List Event → List Event
+latest made = drop (length made - 16) made
+
+abbrev pub last_text : List Event → List ℕ
+last_text [] = notice_line notice.NoEvent
+last_text (e ∷ events) = flat_map event_line (e ∷ events)
+
+-- what is seen of a variable
+abbrev pub seen_text : List ℕ → Option ℕ → Seen → List ℕ
+seen_text name index NoName = notice_line notice.NoName
+seen_text name index NeedsIndex = notice_line notice.NeedsIndex
+seen_text name index NoIndex = notice_line notice.NoIndex
+seen_text name index (Sees bits of) = value_line name index bits of
+
+-- the name of a function, if there is one
+abbrev pub function_name : Option Function → List ℕ
+function_name None = []
+function_name (Some f) = f.name
+
+-- frames from number i on
+abbrev pub frame_lines : Program → ℕ → List Frame → List ℕ
+frame_lines p i [] = []
+frame_lines p i (f ∷ fs) =
+    frame_line i (function_name (slice_get p.functions f.function)) f.line ++ frame_lines p (i + 1) fs
+
+-- the frames, the innermost first, which is at this line
+abbrev pub frames_text : Program → ℕ → List Frame → List ℕ
+frames_text p line [] = notice_line notice.NoFrame
+frames_text p line (f ∷ fs) = frame_lines p 0 (record f { line = line } ∷ fs)
+
+-- the letters that wait for a process
+abbrev pub mail_text : List ℕ → List ℕ
+mail_text [] = notice_line notice.NoMail
+mail_text lines = lines
+
+-- what watchers say, from number k on
+abbrev pub watch_lines : ℕ → List Watched → List ℕ
+watch_lines k [] = []
+watch_lines k (w ∷ watch) = watch_line k (w.kind.said w.notes) ++ watch_lines (k + 1) watch
+
+abbrev pub watch_text : List Watched → List ℕ
+watch_text [] = notice_line notice.NoWatcher
+watch_text (w ∷ watch) = watch_lines 0 (w ∷ watch)
+
+-- how two events stand to each other
+abbrev pub order_notice : Order → Notice
+order_notice order.Same = notice.Same
+order_notice order.Before = notice.Before
+order_notice order.After = notice.After
+order_notice order.Unordered = notice.Unordered
+
+module _ (p : Program) (T : Trace) where
+  module _ (R : List Event) where
+    abbrev pub letters_text : List Message → List ℕ
+    letters_text letters = flat_map (λ m. waiting_line T.n m ((clocks R).stamp m.id)) letters
+
+    abbrev pub where_of : ℕ → List ℕ
+    where_of q =
+        where_line q (look_after p T.n q (messages R q) (count R q)) (line_after p T.n q (messages R q) (count R q))
+        (count R q) (T.counts q)
+
+    abbrev pub seen_in : ℕ → List ℕ → Option ℕ → Seen
+    seen_in q name index =
+        value_named (play_setting p T.n q) (played_after p T.n q (messages R q) (count R q)).state name index
+
+    abbrev pub frames_in : ℕ → List ℕ
+    frames_in q =
+        frames_text p (line_after p T.n q (messages R q) (count R q))
+        (played_after p T.n q (messages R q) (count R q)).state.frames
+
+  -- ---- turns
+
+  abbrev pub turned_by : List Event → ℕ → Turned
+  turned_by R q = go (script_of p T.n) T.mask (Some T) R (record { proc = q; pick = 0 })
+
+  -- process 0 in an empty run, else the one after the process of the last event
+  abbrev pub next_in_turn : List Event → ℕ
+  next_in_turn R = option_map_or (λ e. (e.proc.no + 1) % T.n) (slice_get R (length R - 1)) 0
+
+  -- all processes, from this one on
+  abbrev pub round_from : ℕ → List ℕ
+  round_from first = map (λ i. (first + i) % T.n) (range_with_len 0 T.n)
+
+  abbrev pub event_or : Turned → Option Event → Option Event
+  event_or (Went e) other = Some e
+  event_or (Stays why) other = other
+
+  -- the event of the first of these processes whose turn makes one
+  abbrev pub first_event : List Event → List ℕ → Option Event
+  first_event R [] = None
+  first_event R (q ∷ qs) = event_or (turned_by R q) (first_event R qs)
+
+  -- the event that turns in cyclic order make next
+  abbrev pub next_event : List Event → Option Event
+  next_event R = first_event R (round_from (next_in_turn R))
+
+  -- where no event is made
+  abbrev pub end_line : List Event → List ℕ
+  end_line R = notice_line (if all_reached T R then notice.Finished else notice.Stuck)
+
+  -- what a step makes of the run: an event, unless all counts are reached
+  abbrev pub step_of : List Event → Option Event
+  step_of R = if all_reached T R then None else next_event R
+
+  -- ---- where a run stops
+
+  abbrev pub fits_spot : Spot → Next → Kind → Bool
+  fits_spot spot.Receive next (Accepted set id) = true
+  fits_spot (spot.Line line) (Goes (Line at)) kind = line == at
+  fits_spot at next kind = false
+
+  -- whether a breakpoint fits after the last event of R
+  abbrev pub fits : List Event → Event → Option Break → Bool
+  fits R e None = false
+  fits R e (Some b) =
+      (b.proc.no == e.proc.no)
+      && fits_spot b.at (next (play_setting p T.n e.proc.no) (messages R e.proc.no) (count R e.proc.no)) e.kind
+
+  abbrev pub is_stopping : Watched → Bool
+  is_stopping w = w.kind.stops w.notes
+
+  abbrev pub halt_by : Event → Option ℕ → Option ℕ → Option (List ℕ)
+  halt_by e (Some k) watcher = Some (broke_line k e)
+  halt_by e None (Some k) = Some (watcher_line k e)
+  halt_by e None None = None
+
+  -- what is replied where a run stops after its last event: the lowest breakpoint that fits, or else the lowest watcher
+  -- that stops
+  abbrev pub halt : Session → List Watched → Event → Option (List ℕ)
+  halt s watch e = halt_by e (position (fits s.run e) s.breaks) (position is_stopping watch)
+
+  -- ---- what is replied to lines that make no event and speak of no watcher
+
+  abbrev pub quiet : Session → Asked → Option Reply
+  quiet s Nothing = Some (says s [])
+  quiet s Quit = Some (says s [])
+  quiet s NotALine = Some (notices s notice.Unknown)
+  quiet s NotAProcess = Some (notices s notice.NoProcess)
+  quiet s (SetBreak q at) = Some (set_break s (record { proc = record { no = q }; at = at }))
+  quiet s (Clear k) = Some (clear_break s k)
+  quiet s (Back k) = Some (back_by s k)
+  quiet s (Print q name index) = Some (says s (seen_text name index (seen_in s.run q name index)))
+  quiet s (Frames q) = Some (says s (frames_in s.run q))
+  quiet s Where = Some (says s (flat_map (where_of s.run) (range_with_len 0 T.n)))
+  quiet s (Output q) = Some (says s (output_text (output_after p T.n q (messages s.run q) (count s.run q))))
+  quiet s (Mail q) = Some (says s (mail_text (letters_text s.run (filter (λ m. m.dest.no == q) (waiting s.run)))))
+  quiet s (Clock q) = Some (says s (clock_line q T.n ((clocks s.run).clock q)))
+  quiet s Last = Some (says s (last_text (latest s.made)))
+  quiet s other = None
+
+  -- ---- lines that make events, each of which the watchers are told
+
+  -- one event is made and told
+  pub record Makes (s : Session) (watch : List Watched) (e : Event) (s' : Session) (watch' : List Watched) : Type 0 where
+    pub dropped : ℕ
+    pub told : Told e watch watch' dropped
+    pub is : s' ≡ with_event s e
+
+  -- events are made and told, one by one
+  pub data MakesAll : List Event → Session → List Watched → Session → List Watched → Type 0 where
+    nothing : {s : Session} {watch : List Watched} → MakesAll [] s watch s watch
+    more : {e : Event} {events : List Event} {s s' s'' : Session} {watch watch' watch'' : List Watched}
+        → Makes s watch e s' watch' → MakesAll events s' watch' s'' watch'' → MakesAll (e ∷ events) s watch s'' watch''
+
+  -- as a step again and again, until a breakpoint fits or a watcher stops
+  pub data Runs : Session → List Watched → List ℕ → Session → List Watched → Type 0 where
+    ends : {s : Session} {watch : List Watched} → step_of s.run ≡ None → Runs s watch (end_line s.run) s watch
+    halts : {s s' : Session} {watch watch' : List Watched} {text : List ℕ} (e : Event) → step_of s.run ≡ Some e
+        → Makes s watch e s' watch' → halt s' watch' e ≡ Some text → Runs s watch text s' watch'
+    goes_on : {s s' s'' : Session} {watch watch' watch'' : List Watched} {text : List ℕ} (e : Event)
+        → step_of s.run ≡ Some e → Makes s watch e s' watch' → halt s' watch' e ≡ None
+        → Runs s' watch' text s'' watch'' → Runs s watch text s'' watch''
+
+  abbrev pub idle_line : Idle → List ℕ
+  idle_line IsOver = notice_line notice.IdleOver
+  idle_line AtCount = notice_line notice.IdleCount
+  idle_line NoLetter = notice_line notice.IdleLetter
+
+  -- the finished replay, from the empty run
+  abbrev pub full_run : List Event
+  full_run = (finish_of (script_of p T.n) T []).events
+
+  -- process q has an event of this number in the recording
+  abbrev pub is_recorded : ℕ → ℕ → Bool
+  is_recorded q k = nat_le 1 k && nat_le k (T.counts q)
+
+  -- why an event of the recording can't be gone to
+  abbrev pub refused_at : Bool → Option Notice
+  refused_at recorded =
+      if recorded then (if all_reached T full_run then None else Some notice.Stuck) else Some notice.NoEvent
+
+  -- the run becomes the entries of the finished replay in a cut, made anew
+  pub record GoesTo (c : Cut) (s : Session) (watch : List Watched) (text : List ℕ) (s' : Session)
+      (watch' : List Watched) : Type 0 where
+    pub makes : MakesAll (cut_list c full_run) (record s { run = [] }) watch s' watch'
+    pub is : text ≡ at_line (length (cut_list c full_run))
+
+  -- ---- the replies
+
+  -- what a line that asks so replies, and the session and the watchers after it
+  pub data Answers : Asked → Session → List Watched → List ℕ → Session → List Watched → Type 0 where
+    quietly : {asked : Asked} {s : Session} {watch : List Watched} {r : Reply} → quiet s asked ≡ Some r
+        → Answers asked s watch r.text r.session watch
+    step_ends : {s : Session} {watch : List Watched} → step_of s.run ≡ None
+        → Answers Step s watch (end_line s.run) s watch
+    steps : {s s' : Session} {watch watch' : List Watched} (e : Event) → step_of s.run ≡ Some e
+        → Makes s watch e s' watch' → Answers Step s watch (event_line e) s' watch'
+    idles : {s : Session} {watch : List Watched} (q : ℕ) (why : Idle) → turned_by s.run q ≡ Stays why
+        → Answers (StepOf q) s watch (idle_line why) s watch
+    steps_one : {s s' : Session} {watch watch' : List Watched} (q : ℕ) (e : Event) → turned_by s.run q ≡ Went e
+        → Makes s watch e s' watch' → Answers (StepOf q) s watch (event_line e) s' watch'
+    runs : {s s' : Session} {watch watch' : List Watched} {text : List ℕ} → Runs s watch text s' watch'
+        → Answers Run s watch text s' watch'
+    watches : {s : Session} {watch : List Watched} → Answers Watch s watch (watch_text watch) s watch
+    detaches : {s : Session} {watch : List Watched} (k : ℕ) (w : Watched) → slice_get watch k ≡ Some w
+        → Answers (Detach k) s watch (detached_line k) s (take k watch ++ drop (k + 1) watch)
+    has_none : {s : Session} {watch : List Watched} (k : ℕ) → slice_get watch k ≡ None
+        → Answers (Detach k) s watch (notice_line notice.NoWatcher) s watch
+    stops : {s s' : Session} {watch watch' : List Watched} {text : List ℕ} (q k : ℕ) (c : Cut)
+        → refused_at (is_recorded q k) ≡ None → IsLeastCut full_run (Holds q k) c
+        → GoesTo c s watch text s' watch' → Answers (Stop q k) s watch text s' watch'
+    avoids : {s s' : Session} {watch watch' : List Watched} {text : List ℕ} (q k : ℕ) (c : Cut)
+        → refused_at (is_recorded q k) ≡ None → IsGreatestCut full_run (Lacks q k) c
+        → GoesTo c s watch text s' watch' → Answers (Avoid q k) s watch text s' watch'
+    stop_refused : {s : Session} {watch : List Watched} (q k : ℕ) (why : Notice)
+        → refused_at (is_recorded q k) ≡ Some why → Answers (Stop q k) s watch (notice_line why) s watch
+    avoid_refused : {s : Session} {watch : List Watched} (q k : ℕ) (why : Notice)
+        → refused_at (is_recorded q k) ≡ Some why → Answers (Avoid q k) s watch (notice_line why) s watch
+    compares : {s : Session} {watch : List Watched} (q k r j : ℕ) (a b : Event) (o : Order)
+        → refused_at (is_recorded q k && is_recorded r j) ≡ None → IsEntry full_run q k a → IsEntry full_run r j b
+        → StandsIn full_run a b o → Answers (Compare q k r j) s watch (notice_line (order_notice o)) s watch
+    compare_refused : {s : Session} {watch : List Watched} (q k r j : ℕ) (why : Notice)
+        → refused_at (is_recorded q k && is_recorded r j) ≡ Some why
+        → Answers (Compare q k r j) s watch (notice_line why) s watch
