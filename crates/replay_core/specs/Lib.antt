@@ -1,3 +1,4 @@
+pub mod Backwards
 pub mod Gates
 pub mod Replaying
 pub mod private

@@ -29,9 +29,9 @@ use world::{Turned, World};
 /// stands for scripts, a trace and a replay of these scripts under it.
 #[derive(Drop)]
 pub struct Replay<P: Proc, M: Mail> {
-    world: World<P, M>,
-    gate: TraceGate,
-    events: EventList,
+    pub(crate) world: World<P, M>,
+    pub(crate) gate: TraceGate,
+    pub(crate) events: EventList,
 }
 
 impl<P: Proc, M: Mail> Model for Replay<P, M> {
