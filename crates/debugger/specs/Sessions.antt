@@ -30,7 +30,7 @@ use Rattle.report.specs.declared.replies.Notice.TheVariants as notice
 use Rattle.report.specs.Replies.{event_line, set_line, cleared_line, broke_line, watcher_line, at_line, where_line, frame_line, value_line, output_text, waiting_line, clock_line, watch_line, detached_line, notice_line}
 use Rattle.watchers.specs.Watched.{Watched, Told}
 use Rattle.debugger.specs.declared.breakpoints.Break.{Break}
-use Rattle.debugger.specs.Stepping.{turned_by, step_of, full_run}
+use Rattle.replay_core.specs.Stepping.{turned_by, step_of, full_run}
 use Rattle.debugger.specs.Lines.{Asked, Nothing, NotALine, NotAProcess, SetBreak, Clear, Step, StepOf, Run, Back, Print, Frames, Where, Output, Mail, Clock, Last, Watch, Detach, Stop, Avoid, Compare, Quit}
 
 -- ---- what a session is

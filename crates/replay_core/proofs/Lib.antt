@@ -1,3 +1,4 @@
+pub mod BackLaws
 pub mod GateLaws
 pub mod ReplayLaws
 pub mod RoundLaws

@@ -1,4 +1,5 @@
 pub mod Backwards
 pub mod Gates
 pub mod Replaying
+pub mod Stepping
 pub mod private

@@ -9,6 +9,7 @@ mod finish;
 mod gate;
 mod replay;
 mod round;
+mod step;
 #[cfg(test)]
 mod tests;
 

@@ -1,11 +1,13 @@
 -- Stepping through a replay: turns in cyclic order, with pick 0, until one makes an event.
-use Rattle.std.specs.Prelude.{ℕ, ◌+◌, ◌-◌, ◌%◌, List, [], ◌∷◌, length, map, Option, Some, None, slice_get, if◌then◌else◌}
+use Rattle.std.specs.Prelude.{◌≡◌, ℕ, ◌+◌, ◌-◌, ◌%◌, List, [], ◌∷◌, ◌++◌, length, map, Option, Some, None, slice_get, if◌then◌else◌}
 use Rattle.std.specs.List.{range_with_len}
 use Rattle.std.specs.Option.{option_map_or}
 use Rattle.nm_base.specs.Scripts.{Script}
 use Rattle.event_list.specs.declared.Event.{Event}
 use Rattle.event_list.specs.Traces.{Trace}
+use Rattle.processes.specs.Standing.{Standing}
 use Rattle.event_list.specs.Turns.{Turned, Stays, Went, go, all_reached, finish_of}
+use Rattle.replay_core.specs.Replaying.{Replaying, IsReplayOf}
 
 -- process 0 in an empty run, else the one after the process of the last event
 abbrev pub next_in_turn : ℕ → List Event → ℕ
@@ -37,3 +39,14 @@ module _ (s : ℕ → Script) (T : Trace) where
   -- the finished replay, from the empty run
   abbrev pub full_run : List Event
   full_run = (finish_of s T []).events
+
+-- the run with the event of a step, if there is one
+abbrev pub with_step : List Event → Option Event → List Event
+with_step R None = R
+with_step R (Some e) = R ++ e ∷ []
+
+-- the step made this event, or none
+pub record HasStepped {P M : Type 0} (stands_for : P → Standing) (new : Replaying P M)
+    (s : ℕ → Script) (T : Trace) (R : List Event) (e : Option Event) : Type 0 where
+  pub is : step_of s T R ≡ e
+  pub stands : IsReplayOf stands_for new s T (with_step R e)
