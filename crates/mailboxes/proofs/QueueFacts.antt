@@ -413,7 +413,7 @@ when_ok (Ok t) a b e h f = refl
 when_ok (Err t) a b e h f = absurd (false≢true (sym f ∙ h))
 
 -- a waiting letter was posted at this number or later
-posted_from : (low : ℕ) (slots : List Slot) (i : ℕ) (s : Slot) → Rises low (waiting_in slots) → slice_get slots i ≡ Some s → s.waits ≡ true → low ≤ s.letter.posted
+pub posted_from : (low : ℕ) (slots : List Slot) (i : ℕ) (s : Slot) → Rises low (waiting_in slots) → slice_get slots i ≡ Some s → s.waits ≡ true → low ≤ s.letter.posted
 posted_from low [] i s r is w = absurd (none-some s is)
 posted_from low (x ∷ xs) i s r is w = by x.waits refl r i is (λ low i r is. posted_from low xs i s r is w)
   where

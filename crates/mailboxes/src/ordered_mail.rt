@@ -1,6 +1,6 @@
 //! A mail with a queue for each process and channel.
 
-ghost use Rattle.std.specs.Prelude.{◌≡◌, ◌<◌, ◌&&◌, length, map, find, nat_le, true, Some, slice_get, option_map, Contains, IfSome};
+ghost use Rattle.std.specs.Prelude.{◌≡◌, ◌<◌, ◌≤◌, ◌&&◌, drop, length, map, find, nat_le, true, Some, slice_get, option_map, Contains, IfSome};
 ghost use Rattle.std.specs.Option.{option_copied};
 ghost use Rattle.std.specs.List.{IsDistinct};
 ghost use Rattle.std.proofs.lemmas.Map.Keys.{IsDistinct-prop};
@@ -84,14 +84,53 @@ fn is_from(s: &Slot, posted: u32) -> bool
     s.waits && posted <= s.letter.posted
 }
 
+/// A place found by halves, as if all numbers of posting rose with the places: those of the letters
+/// that wait do, and mostly those of letters that were taken.
+fn likely_start(slots: &[Slot], posted: u32) -> usize
+    ensures { result ≤ length slots.now }
+{
+    let mut low = 0;
+    let mut high = slots.len();
+    while low < high {
+        let middle = low + (high - low) / 2;
+        if slots[middle].letter.posted < posted {
+            low = middle + 1;
+        } else {
+            high = middle;
+        }
+    }
+    low
+}
+
+/// A place before which no letter waits that was posted at this number or later: behind a letter
+/// that waits and was posted before, or the first place.
+fn start_for(slots: &[Slot], posted: u32) -> usize
+    requires { Rises 0 (waiting_in slots.now) }
+    ensures { find (λ l. nat_le posted l.posted) (waiting_in (drop result slots.now))
+        ≡ find (λ l. nat_le posted l.posted) (waiting_in slots.now) }
+{
+    let mut start = likely_start(slots, posted);
+    while start > 0 {
+        let before = &slots[start - 1];
+        if before.waits && before.letter.posted < posted {
+            return start;
+        }
+        start -= 1;
+    }
+    0
+}
+
 /// The first waiting letter that was posted at this number or later.
 fn first_from(slots: &[Slot], posted: u32) -> Option<&Letter>
+    requires { Rises 0 (waiting_in slots.now) }
     ensures { option_copied result ≡ find (λ l. nat_le posted l.posted) (waiting_in slots.now) }
 {
-    for slot in slots {
-        if is_from(slot, posted) {
-            return Some(&slot.letter);
+    let mut place = start_for(slots, posted);
+    while place < slots.len() {
+        if is_from(&slots[place], posted) {
+            return Some(&slots[place].letter);
         }
+        place += 1;
     }
     None
 }

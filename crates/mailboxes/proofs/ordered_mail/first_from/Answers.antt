@@ -5,11 +5,11 @@ use Rattle.mailboxes.proofs.ordered_mail.first_from.Goals as goal
 
 pub returns-then-is_from : goal.returns-then-is_from
 returns-then-is_from c =
-    sym (find_here (λ k. nat_le c.args.posted k.posted) c.args.slots.now c.loop-slot.slot-index _ (read_at c.args.slots.now c.loop-slot.slot-index _ c.loop-slot-test.true) (sym c.is_from.ensures ∙ c.if-is_from.true)) ∙ c.loop-slot.invariant
+    sym (find_here (λ k. nat_le c.args.posted k.posted) c.args.slots.now c.loop-place.place _ (read_at c.args.slots.now c.loop-place.place _ c.loop-place-test.true) (sym c.is_from.ensures ∙ c.if-is_from.true)) ∙ c.loop-place.invariant
 
-pub loop-slot-preserved : goal.loop-slot-preserved
-loop-slot-preserved c =
-    sym (find_past (λ k. nat_le c.args.posted k.posted) c.args.slots.now c.loop-slot.slot-index _ (read_at c.args.slots.now c.loop-slot.slot-index _ c.loop-slot-test.true) (sym c.is_from.ensures ∙ c.if-is_from.false)) ∙ c.loop-slot.invariant
+pub loop-place-preserved : goal.loop-place-preserved
+loop-place-preserved c =
+    sym (find_past (λ k. nat_le c.args.posted k.posted) c.args.slots.now c.loop-place.place _ (read_at c.args.slots.now c.loop-place.place _ c.loop-place-test.true) (sym c.is_from.ensures ∙ c.if-is_from.false)) ∙ c.loop-place.invariant
 
 pub returns : goal.returns
-returns c = sym (find_end (λ k. nat_le c.args.posted k.posted) c.args.slots.now c.loop-slot.slot-index c.loop-slot-test.false) ∙ c.loop-slot.invariant
+returns c = sym (find_end (λ k. nat_le c.args.posted k.posted) c.args.slots.now c.loop-place.place c.loop-place-test.false) ∙ c.loop-place.invariant
