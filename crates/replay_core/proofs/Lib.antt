@@ -2,3 +2,4 @@ pub mod BackLaws
 pub mod GateLaws
 pub mod ReplayLaws
 pub mod RoundLaws
+pub mod StepLaws

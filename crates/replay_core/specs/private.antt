@@ -1,3 +1,4 @@
 -- Definitions of private contracts and proofs.
 pub mod Held
 pub mod Rounds
+pub mod Steps

@@ -16,12 +16,7 @@ impl<P: Proc, M: Mail> Replay<P, M> {
     /// Goes back to the first `to` events of a replay whose events were all made with pick 0. The
     /// world `from` is one after some of these events, of processes of the same origins; those that
     /// are missing are made again. Where memory is refused the replay is as before.
-    pub fn go_back(
-        &mut self,
-        alloc: Global,
-        from: World<P, M>,
-        to: u32,
-    ) -> Result<(), WantOfMemory>
+    pub fn go_back(&mut self, alloc: Global, from: World<P, M>, to: u32) -> Result<(), WantOfMemory>
         requires picked { IsSomeFirstPicked P.stands_for self.old }
         requires front { ReplaysFront P.stands_for self.old (with_world self.old from from.events) from.events }
         requires reached { from.events ≤ to }

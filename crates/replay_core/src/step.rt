@@ -32,10 +32,12 @@ impl<P: Proc, M: Mail> Replay<P, M> {
         let n = self.n();
         let first = self.next_in_turn();
         for i in 0..n {
-            let p = ProcNo { no: (first + i) % n };
-            let turned = self.turn(alloc, Turn { proc: p, pick: 0 })?;
-            if let Turned::Went { event, .. } = turned {
-                return Ok(Some(event));
+            let p = ProcNo {
+                no: (first + i) % n,
+            };
+            match self.turn(alloc, Turn { proc: p, pick: 0 })? {
+                Turned::Went { event, .. } => return Ok(Some(event)),
+                Turned::Idle(_) => {}
             }
         }
         Ok(None)
