@@ -195,12 +195,38 @@ impl Queues {
             && self.slots.iter().filter(|s| s.waits).count() <= len / 2
     }
 
-    /// Lets go of the slots of letters that were taken. It is kept out of its caller, which would pay
-    /// at each call for the room of new queues.
+    /// Whether no letter waits.
+    fn is_empty(&self) -> bool
+        ensures { result ≡ true → waiting_in self.now.slots ≡ [] }
+    {
+        for slot in self.slots.iter() {
+            if slot.waits {
+                return false;
+            }
+        }
+        true
+    }
+
+    /// Lets go of all slots, and of no room.
+    fn clear(&mut self)
+        ensures { self.new.slots ≡ [] }
+    {
+        self.slots.clear();
+        self.next.clear();
+        self.heads = no_places();
+        self.tails = no_places();
+    }
+
+    /// Lets go of the slots of letters that were taken; it takes no memory where none waits. It is kept
+    /// out of its caller, which would pay at each call for the room of new queues.
     #[inline(never)]
     pub(crate) fn compact(&mut self, alloc: Global) -> Result<(), WantOfMemory>
         ensures { waiting_in self.new.slots ≡ waiting_in self.old.slots }
     {
+        if self.is_empty() {
+            self.clear();
+            return Ok(());
+        }
         let fresh = queues_of(alloc, self.slots.as_slice())?;
         *self = fresh;
         Ok(())
