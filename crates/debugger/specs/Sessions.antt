@@ -6,7 +6,7 @@ use Rattle.std.specs.Option.{option_map_or}
 use Rattle.nm_base.specs.declared.kind.Kind.{Kind}
 use Rattle.nm_base.specs.declared.kind.Kind.TheVariants.{Line, Accepted}
 use Rattle.nm_base.specs.Message.{Message}
-use Rattle.nm_base.specs.Scripts.{Next, Goes}
+use Rattle.nm_base.specs.Scripts.{Next, Goes, Script}
 use Rattle.c_tree.specs.declared.program.Program.{Program}
 use Rattle.c_tree.specs.declared.program.Function.{Function}
 use Rattle.c_tree.specs.State.{Frame}
@@ -21,7 +21,7 @@ use Rattle.event_list.specs.Clocks.{clocks}
 use Rattle.event_list.specs.Cuts.{cut_list, IsLeastCut, IsGreatestCut}
 use Rattle.event_list.specs.Order.{Cut}
 use Rattle.event_list.specs.Traces.{Trace, waiting}
-use Rattle.event_list.specs.Turns.{Turned, Stays, Went, Idle, IsOver, AtCount, NoLetter, go, all_reached, finish_of}
+use Rattle.event_list.specs.Turns.{Stays, Went, Idle, IsOver, AtCount, NoLetter, all_reached}
 use Rattle.c_process.specs.Shown.{played_after, look_after, line_after, output_after}
 use Rattle.report.specs.declared.replies.Spot.{Spot}
 use Rattle.report.specs.declared.replies.Spot.TheVariants as spot
@@ -30,6 +30,7 @@ use Rattle.report.specs.declared.replies.Notice.TheVariants as notice
 use Rattle.report.specs.Replies.{event_line, set_line, cleared_line, broke_line, watcher_line, at_line, where_line, frame_line, value_line, output_text, waiting_line, clock_line, watch_line, detached_line, notice_line}
 use Rattle.watchers.specs.Watched.{Watched, Told}
 use Rattle.debugger.specs.declared.breakpoints.Break.{Break}
+use Rattle.replay_core.specs.Stepping.{turned_by, step_of, full_run}
 use Rattle.debugger.specs.Lines.{Asked, Nothing, NotALine, NotAProcess, SetBreak, Clear, Step, StepOf, Run, Back, Print, Frames, Where, Output, Mail, Clock, Last, Watch, Detach, Stop, Avoid, Compare, Quit}
 
 -- ---- what a session is
@@ -171,39 +172,12 @@ module _ (p : Program) (T : Trace) where
         frames_text p (line_after p T.n q (messages R q) (count R q))
         (played_after p T.n q (messages R q) (count R q)).state.frames
 
-  -- ---- turns
+  abbrev pub scripts : ℕ → Script
+  scripts = script_of p T.n
 
-  abbrev pub turned_by : List Event → ℕ → Turned
-  turned_by R q = go (script_of p T.n) T.mask (Some T) R (record { proc = q; pick = 0 })
-
-  -- process 0 in an empty run, else the one after the process of the last event
-  abbrev pub next_in_turn : List Event → ℕ
-  next_in_turn R = option_map_or (λ e. (e.proc.no + 1) % T.n) (slice_get R (length R - 1)) 0
-
-  -- all processes, from this one on
-  abbrev pub round_from : ℕ → List ℕ
-  round_from first = map (λ i. (first + i) % T.n) (range_with_len 0 T.n)
-
-  abbrev pub event_or : Turned → Option Event → Option Event
-  event_or (Went e) other = Some e
-  event_or (Stays why) other = other
-
-  -- the event of the first of these processes whose turn makes one
-  abbrev pub first_event : List Event → List ℕ → Option Event
-  first_event R [] = None
-  first_event R (q ∷ qs) = event_or (turned_by R q) (first_event R qs)
-
-  -- the event that turns in cyclic order make next
-  abbrev pub next_event : List Event → Option Event
-  next_event R = first_event R (round_from (next_in_turn R))
-
-  -- where no event is made
+  -- where a step makes no event
   abbrev pub end_line : List Event → List ℕ
   end_line R = notice_line (if all_reached T R then notice.Finished else notice.Stuck)
-
-  -- what a step makes of the run: an event, unless all counts are reached
-  abbrev pub step_of : List Event → Option Event
-  step_of R = if all_reached T R then None else next_event R
 
   -- ---- where a run stops
 
@@ -267,21 +241,17 @@ module _ (p : Program) (T : Trace) where
 
   -- as a step again and again, until a breakpoint fits or a watcher stops
   pub data Runs : Session → List Watched → List ℕ → Session → List Watched → Type 0 where
-    ends : {s : Session} {watch : List Watched} → step_of s.run ≡ None → Runs s watch (end_line s.run) s watch
-    halts : {s s' : Session} {watch watch' : List Watched} {text : List ℕ} (e : Event) → step_of s.run ≡ Some e
+    ends : {s : Session} {watch : List Watched} → step_of scripts T s.run ≡ None → Runs s watch (end_line s.run) s watch
+    halts : {s s' : Session} {watch watch' : List Watched} {text : List ℕ} (e : Event) → step_of scripts T s.run ≡ Some e
         → Makes s watch e s' watch' → halt s' watch' e ≡ Some text → Runs s watch text s' watch'
     goes_on : {s s' s'' : Session} {watch watch' watch'' : List Watched} {text : List ℕ} (e : Event)
-        → step_of s.run ≡ Some e → Makes s watch e s' watch' → halt s' watch' e ≡ None
+        → step_of scripts T s.run ≡ Some e → Makes s watch e s' watch' → halt s' watch' e ≡ None
         → Runs s' watch' text s'' watch'' → Runs s watch text s'' watch''
 
   abbrev pub idle_line : Idle → List ℕ
   idle_line IsOver = notice_line notice.IdleOver
   idle_line AtCount = notice_line notice.IdleCount
   idle_line NoLetter = notice_line notice.IdleLetter
-
-  -- the finished replay, from the empty run
-  abbrev pub full_run : List Event
-  full_run = (finish_of (script_of p T.n) T []).events
 
   -- process q has an event of this number in the recording
   abbrev pub is_recorded : ℕ → ℕ → Bool
@@ -290,13 +260,13 @@ module _ (p : Program) (T : Trace) where
   -- why an event of the recording can't be gone to
   abbrev pub refused_at : Bool → Option Notice
   refused_at recorded =
-      if recorded then (if all_reached T full_run then None else Some notice.Stuck) else Some notice.NoEvent
+      if recorded then (if all_reached T (full_run scripts T) then None else Some notice.Stuck) else Some notice.NoEvent
 
   -- the run becomes the entries of the finished replay in a cut, made anew
   pub record GoesTo (c : Cut) (s : Session) (watch : List Watched) (text : List ℕ) (s' : Session)
       (watch' : List Watched) : Type 0 where
-    pub makes : MakesAll (cut_list c full_run) (record s { run = [] }) watch s' watch'
-    pub is : text ≡ at_line (length (cut_list c full_run))
+    pub makes : MakesAll (cut_list c (full_run scripts T)) (record s { run = [] }) watch s' watch'
+    pub is : text ≡ at_line (length (cut_list c (full_run scripts T)))
 
   -- ---- the replies
 
@@ -304,13 +274,13 @@ module _ (p : Program) (T : Trace) where
   pub data Answers : Asked → Session → List Watched → List ℕ → Session → List Watched → Type 0 where
     quietly : {asked : Asked} {s : Session} {watch : List Watched} {r : Reply} → quiet s asked ≡ Some r
         → Answers asked s watch r.text r.session watch
-    step_ends : {s : Session} {watch : List Watched} → step_of s.run ≡ None
+    step_ends : {s : Session} {watch : List Watched} → step_of scripts T s.run ≡ None
         → Answers Step s watch (end_line s.run) s watch
-    steps : {s s' : Session} {watch watch' : List Watched} (e : Event) → step_of s.run ≡ Some e
+    steps : {s s' : Session} {watch watch' : List Watched} (e : Event) → step_of scripts T s.run ≡ Some e
         → Makes s watch e s' watch' → Answers Step s watch (event_line e) s' watch'
-    idles : {s : Session} {watch : List Watched} (q : ℕ) (why : Idle) → turned_by s.run q ≡ Stays why
+    idles : {s : Session} {watch : List Watched} (q : ℕ) (why : Idle) → turned_by scripts T s.run q ≡ Stays why
         → Answers (StepOf q) s watch (idle_line why) s watch
-    steps_one : {s s' : Session} {watch watch' : List Watched} (q : ℕ) (e : Event) → turned_by s.run q ≡ Went e
+    steps_one : {s s' : Session} {watch watch' : List Watched} (q : ℕ) (e : Event) → turned_by scripts T s.run q ≡ Went e
         → Makes s watch e s' watch' → Answers (StepOf q) s watch (event_line e) s' watch'
     runs : {s s' : Session} {watch watch' : List Watched} {text : List ℕ} → Runs s watch text s' watch'
         → Answers Run s watch text s' watch'
@@ -320,18 +290,18 @@ module _ (p : Program) (T : Trace) where
     has_none : {s : Session} {watch : List Watched} (k : ℕ) → slice_get watch k ≡ None
         → Answers (Detach k) s watch (notice_line notice.NoWatcher) s watch
     stops : {s s' : Session} {watch watch' : List Watched} {text : List ℕ} (q k : ℕ) (c : Cut)
-        → refused_at (is_recorded q k) ≡ None → IsLeastCut full_run (Holds q k) c
+        → refused_at (is_recorded q k) ≡ None → IsLeastCut (full_run scripts T) (Holds q k) c
         → GoesTo c s watch text s' watch' → Answers (Stop q k) s watch text s' watch'
     avoids : {s s' : Session} {watch watch' : List Watched} {text : List ℕ} (q k : ℕ) (c : Cut)
-        → refused_at (is_recorded q k) ≡ None → IsGreatestCut full_run (Lacks q k) c
+        → refused_at (is_recorded q k) ≡ None → IsGreatestCut (full_run scripts T) (Lacks q k) c
         → GoesTo c s watch text s' watch' → Answers (Avoid q k) s watch text s' watch'
     stop_refused : {s : Session} {watch : List Watched} (q k : ℕ) (why : Notice)
         → refused_at (is_recorded q k) ≡ Some why → Answers (Stop q k) s watch (notice_line why) s watch
     avoid_refused : {s : Session} {watch : List Watched} (q k : ℕ) (why : Notice)
         → refused_at (is_recorded q k) ≡ Some why → Answers (Avoid q k) s watch (notice_line why) s watch
     compares : {s : Session} {watch : List Watched} (q k r j : ℕ) (a b : Event) (o : Order)
-        → refused_at (is_recorded q k && is_recorded r j) ≡ None → IsEntry full_run q k a → IsEntry full_run r j b
-        → StandsIn full_run a b o → Answers (Compare q k r j) s watch (notice_line (order_notice o)) s watch
+        → refused_at (is_recorded q k && is_recorded r j) ≡ None → IsEntry (full_run scripts T) q k a → IsEntry (full_run scripts T) r j b
+        → StandsIn (full_run scripts T) a b o → Answers (Compare q k r j) s watch (notice_line (order_notice o)) s watch
     compare_refused : {s : Session} {watch : List Watched} (q k r j : ℕ) (why : Notice)
         → refused_at (is_recorded q k && is_recorded r j) ≡ Some why
         → Answers (Compare q k r j) s watch (notice_line why) s watch
