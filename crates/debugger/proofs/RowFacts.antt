@@ -4,7 +4,6 @@ use Rattle.std.specs.Prelude.{nat_lt, codes, if◌then◌else◌}
 use Rattle.std.specs.Option.{option_map, option_map_or}
 use Rattle.std.specs.Str.{bytes_eq}
 use Rattle.nm_base.specs.Decimal.{number_of}
-use Rattle.report.specs.declared.replies.Spot.{Spot}
 use Rattle.report.specs.declared.replies.Spot.TheVariants as spot
 use Rattle.debugger.specs.declared.line.Line.{Line}
 use Rattle.debugger.specs.declared.rows.Who.{Who}

@@ -1,5 +1,5 @@
 -- What a line that was read asks.
-use Rattle.std.specs.Prelude.{ℕ, ◌<◌, nat_lt, List, codes, Option, Some, None, if◌then◌else◌, ⊤}
+use Rattle.std.specs.Prelude.{ℕ, ◌<◌, nat_lt, List, codes, Option, Some, if◌then◌else◌, ⊤}
 use Rattle.std.specs.Option.{option_map, option_map_or}
 use Rattle.std.specs.Str.{bytes_eq}
 use Rattle.nm_base.specs.Decimal.{number_of}

@@ -1,5 +1,4 @@
 use Rattle.std.proofs.Common.{sym, ap, ◌∙◌}
-use Rattle.debugger.specs.Lines as lines
 use Rattle.debugger.specs.Lines.{NotALine, SetBreak, break_at}
 use Rattle.std.specs.Option.{option_map_or}
 use Rattle.debugger.proofs.RowFacts.{asked_process, asked_alike, no_line, break_is}

@@ -1,4 +1,4 @@
-use Rattle.std.proofs.Common.{◌≡◌, ℕ, sym, ap, ◌∙◌}
+use Rattle.std.proofs.Common.{sym, ap, ◌∙◌}
 use Rattle.debugger.specs.Lines as lines
 use Rattle.debugger.specs.Lines.{NotALine, with_number, with_process}
 use Rattle.std.specs.Option.{option_map_or}
