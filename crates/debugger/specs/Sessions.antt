@@ -1,17 +1,14 @@
 -- A session of the debugger: a replay that goes forwards and back, and what each line replies and does. Nothing here
 -- knows of worlds that are kept, or of how a run is made again.
-use Rattle.std.specs.Prelude.{◌≡◌, ℕ, ◌+◌, ◌-◌, ◌%◌, ◌==◌, ◌&&◌, ◌||◌, nat_lt, nat_le, Bool, true, false, List, [], ◌∷◌, ◌++◌, length, map, take, drop, filter, replicate, Option, Some, None, slice_get, slice_set, position, if◌then◌else◌}
+use Rattle.std.specs.Prelude.{◌≡◌, ℕ, ◌+◌, ◌-◌, ◌%◌, ◌==◌, ◌&&◌, ◌||◌, nat_lt, nat_le, Bool, true, false, List, [], ◌∷◌, ◌++◌, length, map, take, drop, filter, replicate, Option, Some, None, slice_get, position, if◌then◌else◌}
 use Rattle.std.specs.List.{flat_map, range_with_len}
 use Rattle.std.specs.Option.{option_map_or}
-use Rattle.nm_base.specs.declared.kind.Kind.{Kind}
-use Rattle.nm_base.specs.declared.kind.Kind.TheVariants.{Line, Accepted}
 use Rattle.nm_base.specs.Message.{Message}
-use Rattle.nm_base.specs.Scripts.{Next, Goes, Script}
+use Rattle.nm_base.specs.Scripts.{Script}
 use Rattle.c_tree.specs.declared.program.Program.{Program}
 use Rattle.c_tree.specs.declared.program.Function.{Function}
-use Rattle.c_tree.specs.State.{Frame}
-use Rattle.c_tree.specs.Play.{next, play_setting, script_of}
-use Rattle.c_tree.specs.NameLookup.{Seen, NoName, NeedsIndex, NoIndex, Sees, value_named}
+use Rattle.c_tree.specs.Play.{script_of}
+use Rattle.c_tree.specs.NameLookup.{Seen, NoName, NeedsIndex, NoIndex, Sees}
 use Rattle.causal_stop.specs.declared.standing.Order.{Order}
 use Rattle.causal_stop.specs.declared.standing.Order.TheVariants as order
 use Rattle.causal_stop.specs.Stops.{Holds, Lacks, IsEntry, StandsIn}
@@ -22,7 +19,9 @@ use Rattle.event_list.specs.Cuts.{cut_list, IsLeastCut, IsGreatestCut}
 use Rattle.event_list.specs.Order.{Cut}
 use Rattle.event_list.specs.Traces.{Trace, waiting}
 use Rattle.event_list.specs.Turns.{Stays, Went, Idle, IsOver, AtCount, NoLetter, all_reached}
-use Rattle.c_process.specs.Shown.{played_after, look_after, line_after, output_after}
+use Rattle.c_process.specs.declared.answers.FrameSeen.{FrameSeen}
+use Rattle.c_process.specs.Shown.{look_after, line_after, output_after}
+use Rattle.c_process.specs.Values.{next_line_after, frames_after, value_after}
 use Rattle.report.specs.declared.replies.Spot.{Spot}
 use Rattle.report.specs.declared.replies.Spot.TheVariants as spot
 use Rattle.report.specs.declared.replies.Notice.{Notice}
@@ -31,6 +30,9 @@ use Rattle.report.specs.Replies.{event_line, set_line, cleared_line, broke_line,
 use Rattle.watchers.specs.Watched.{Watched, Told}
 use Rattle.debugger.specs.declared.breakpoints.Break.{Break}
 use Rattle.replay_core.specs.Stepping.{turned_by, step_of, full_run}
+use Rattle.debugger.specs.declared.breakpoints.TheConstants.{MAX_BREAKS}
+use Rattle.debugger.specs.Breaks.{is_free, set_in, cleared_in, fits_after}
+use Rattle.debugger.specs.Latest.{latest_of}
 use Rattle.debugger.specs.Lines.{Asked, Nothing, NotALine, NotAProcess, SetBreak, Clear, Step, StepOf, Run, Back, Print, Frames, Where, Output, Mail, Clock, Last, Watch, Detach, Stop, Avoid, Compare, Quit}
 
 -- ---- what a session is
@@ -43,7 +45,7 @@ pub record Session : Type 0 where
 
 -- before the first line
 abbrev pub first_session : Session
-first_session = record { run = []; breaks = replicate 16 None; made = [] }
+first_session = record { run = []; breaks = replicate MAX_BREAKS None; made = [] }
 
 -- with the event made last
 abbrev pub with_event : Session → Event → Session
@@ -63,15 +65,11 @@ notices s what = says s (notice_line what)
 
 -- ---- breakpoints
 
-abbrev pub is_free : Option Break → Bool
-is_free None = true
-is_free (Some b) = false
-
 abbrev pub set_at : Session → Break → Option ℕ → Reply
 set_at s b None = notices s notice.Full
 set_at s b (Some k) = record {
   text = set_line k b.proc.no b.at;
-  session = record { run = s.run; breaks = slice_set s.breaks k (Some b); made = s.made };
+  session = record { run = s.run; breaks = set_in s.breaks b (Some k); made = s.made };
 }
 
 -- takes the lowest free place
@@ -81,7 +79,7 @@ set_break s b = set_at s b (position is_free s.breaks)
 abbrev pub clear_at : Session → ℕ → Option (Option Break) → Reply
 clear_at s k (Some (Some b)) = record {
   text = cleared_line k;
-  session = record { run = s.run; breaks = slice_set s.breaks k None; made = s.made };
+  session = record { run = s.run; breaks = cleared_in s.breaks k (Some (Some b)); made = s.made };
 }
 clear_at s k free = notices s notice.NoBreak
 
@@ -101,10 +99,6 @@ back_by s k =
 
 -- ---- lines that only look
 
--- the event lines of the last sixteen events that were made
-abbrev pub latest : List Event → List Event
-latest made = drop (length made - 16) made
-
 abbrev pub last_text : List Event → List ℕ
 last_text [] = notice_line notice.NoEvent
 last_text (e ∷ events) = flat_map event_line (e ∷ events)
@@ -122,15 +116,15 @@ function_name None = []
 function_name (Some f) = f.name
 
 -- frames from number i on
-abbrev pub frame_lines : Program → ℕ → List Frame → List ℕ
+abbrev pub frame_lines : Program → ℕ → List FrameSeen → List ℕ
 frame_lines p i [] = []
 frame_lines p i (f ∷ fs) =
     frame_line i (function_name (slice_get p.functions f.function)) f.line ++ frame_lines p (i + 1) fs
 
--- the frames, the innermost first, which is at this line
-abbrev pub frames_text : Program → ℕ → List Frame → List ℕ
-frames_text p line [] = notice_line notice.NoFrame
-frames_text p line (f ∷ fs) = frame_lines p 0 (record f { line = line } ∷ fs)
+-- the frames, the innermost first
+abbrev pub frames_text : Program → List FrameSeen → List ℕ
+frames_text p [] = notice_line notice.NoFrame
+frames_text p (f ∷ fs) = frame_lines p 0 (f ∷ fs)
 
 -- the letters that wait for a process
 abbrev pub mail_text : List ℕ → List ℕ
@@ -164,13 +158,10 @@ module _ (p : Program) (T : Trace) where
         (count R q) (T.counts q)
 
     abbrev pub seen_in : ℕ → List ℕ → Option ℕ → Seen
-    seen_in q name index =
-        value_named (play_setting p T.n q) (played_after p T.n q (messages R q) (count R q)).state name index
+    seen_in q name index = value_after p T.n q (messages R q) (count R q) name index
 
     abbrev pub frames_in : ℕ → List ℕ
-    frames_in q =
-        frames_text p (line_after p T.n q (messages R q) (count R q))
-        (played_after p T.n q (messages R q) (count R q)).state.frames
+    frames_in q = frames_text p (frames_after p T.n q (messages R q) (count R q))
 
   abbrev pub scripts : ℕ → Script
   scripts = script_of p T.n
@@ -181,17 +172,10 @@ module _ (p : Program) (T : Trace) where
 
   -- ---- where a run stops
 
-  abbrev pub fits_spot : Spot → Next → Kind → Bool
-  fits_spot spot.Receive next (Accepted set id) = true
-  fits_spot (spot.Line line) (Goes (Line at)) kind = line == at
-  fits_spot at next kind = false
-
   -- whether a breakpoint fits after the last event of R
   abbrev pub fits : List Event → Event → Option Break → Bool
-  fits R e None = false
-  fits R e (Some b) =
-      (b.proc.no == e.proc.no)
-      && fits_spot b.at (next (play_setting p T.n e.proc.no) (messages R e.proc.no) (count R e.proc.no)) e.kind
+  fits R e place =
+      fits_after e.proc.no e.kind (next_line_after p T.n e.proc.no (messages R e.proc.no) (count R e.proc.no)) place
 
   abbrev pub is_stopping : Watched → Bool
   is_stopping w = w.kind.stops w.notes
@@ -222,7 +206,7 @@ module _ (p : Program) (T : Trace) where
   quiet s (Output q) = Some (says s (output_text (output_after p T.n q (messages s.run q) (count s.run q))))
   quiet s (Mail q) = Some (says s (mail_text (letters_text s.run (filter (λ m. m.dest.no == q) (waiting s.run)))))
   quiet s (Clock q) = Some (says s (clock_line q T.n ((clocks s.run).clock q)))
-  quiet s Last = Some (says s (last_text (latest s.made)))
+  quiet s Last = Some (says s (last_text (latest_of s.made)))
   quiet s other = None
 
   -- ---- lines that make events, each of which the watchers are told

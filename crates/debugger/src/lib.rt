@@ -2,19 +2,13 @@
 //! look at it.
 #![tactic(auto)]
 
-mod answer;
-mod backward;
 mod breakpoints;
 mod fault;
-mod forward;
 mod latest;
 mod line;
 mod looks;
-mod session;
-#[cfg(test)]
-mod tests;
-mod watching;
+mod rows;
+mod words;
 
 pub use breakpoints::Break;
 pub use fault::SessionFault;
-pub use session::{Next, Session};
