@@ -1,5 +1,6 @@
 pub mod Lines
 pub mod Breaks
 pub mod Latest
+pub mod Looks
 pub mod Sessions
 pub mod private

@@ -33,6 +33,7 @@ use Rattle.replay_core.specs.Stepping.{turned_by, step_of, full_run}
 use Rattle.debugger.specs.declared.breakpoints.TheConstants.{MAX_BREAKS}
 use Rattle.debugger.specs.Breaks.{is_free, set_in, cleared_in, fits_after}
 use Rattle.debugger.specs.Latest.{latest_of}
+use Rattle.debugger.specs.Looks.{last_text, frames_in, value_of, places_of, output_of, mail_of, clock_of}
 use Rattle.debugger.specs.Lines.{Asked, Nothing, NotALine, NotAProcess, SetBreak, Clear, Step, StepOf, Run, Back, Print, Frames, Where, Output, Mail, Clock, Last, Watch, Detach, Stop, Avoid, Compare, Quit}
 
 -- ---- what a session is
@@ -97,40 +98,6 @@ back_by s k =
       session = record { run = take (length s.run - k) s.run; breaks = s.breaks; made = s.made };
     } else notices s notice.NoEvent
 
--- ---- lines that only look
-
-abbrev pub last_text : List Event → List ℕ
-last_text [] = notice_line notice.NoEvent
-last_text (e ∷ events) = flat_map event_line (e ∷ events)
-
--- what is seen of a variable
-abbrev pub seen_text : List ℕ → Option ℕ → Seen → List ℕ
-seen_text name index NoName = notice_line notice.NoName
-seen_text name index NeedsIndex = notice_line notice.NeedsIndex
-seen_text name index NoIndex = notice_line notice.NoIndex
-seen_text name index (Sees bits of) = value_line name index bits of
-
--- the name of a function, if there is one
-abbrev pub function_name : Option Function → List ℕ
-function_name None = []
-function_name (Some f) = f.name
-
--- frames from number i on
-abbrev pub frame_lines : Program → ℕ → List FrameSeen → List ℕ
-frame_lines p i [] = []
-frame_lines p i (f ∷ fs) =
-    frame_line i (function_name (slice_get p.functions f.function)) f.line ++ frame_lines p (i + 1) fs
-
--- the frames, the innermost first
-abbrev pub frames_text : Program → List FrameSeen → List ℕ
-frames_text p [] = notice_line notice.NoFrame
-frames_text p (f ∷ fs) = frame_lines p 0 (f ∷ fs)
-
--- the letters that wait for a process
-abbrev pub mail_text : List ℕ → List ℕ
-mail_text [] = notice_line notice.NoMail
-mail_text lines = lines
-
 -- what watchers say, from number k on
 abbrev pub watch_lines : ℕ → List Watched → List ℕ
 watch_lines k [] = []
@@ -148,21 +115,6 @@ order_notice order.After = notice.After
 order_notice order.Unordered = notice.Unordered
 
 module _ (p : Program) (T : Trace) where
-  module _ (R : List Event) where
-    abbrev pub letters_text : List Message → List ℕ
-    letters_text letters = flat_map (λ m. waiting_line T.n m ((clocks R).stamp m.id)) letters
-
-    abbrev pub where_of : ℕ → List ℕ
-    where_of q =
-        where_line q (look_after p T.n q (messages R q) (count R q)) (line_after p T.n q (messages R q) (count R q))
-        (count R q) (T.counts q)
-
-    abbrev pub seen_in : ℕ → List ℕ → Option ℕ → Seen
-    seen_in q name index = value_after p T.n q (messages R q) (count R q) name index
-
-    abbrev pub frames_in : ℕ → List ℕ
-    frames_in q = frames_text p (frames_after p T.n q (messages R q) (count R q))
-
   abbrev pub scripts : ℕ → Script
   scripts = script_of p T.n
 
@@ -200,12 +152,12 @@ module _ (p : Program) (T : Trace) where
   quiet s (SetBreak q at) = Some (set_break s (record { proc = record { no = q }; at = at }))
   quiet s (Clear k) = Some (clear_break s k)
   quiet s (Back k) = Some (back_by s k)
-  quiet s (Print q name index) = Some (says s (seen_text name index (seen_in s.run q name index)))
-  quiet s (Frames q) = Some (says s (frames_in s.run q))
-  quiet s Where = Some (says s (flat_map (where_of s.run) (range_with_len 0 T.n)))
-  quiet s (Output q) = Some (says s (output_text (output_after p T.n q (messages s.run q) (count s.run q))))
-  quiet s (Mail q) = Some (says s (mail_text (letters_text s.run (filter (λ m. m.dest.no == q) (waiting s.run)))))
-  quiet s (Clock q) = Some (says s (clock_line q T.n ((clocks s.run).clock q)))
+  quiet s (Print q name index) = Some (says s (value_of p T.n s.run q name index))
+  quiet s (Frames q) = Some (says s (frames_in p T.n s.run q))
+  quiet s Where = Some (says s (places_of p T.n s.run T.counts))
+  quiet s (Output q) = Some (says s (output_of p T.n s.run q))
+  quiet s (Mail q) = Some (says s (mail_of p T.n s.run q))
+  quiet s (Clock q) = Some (says s (clock_of p T.n s.run q))
   quiet s Last = Some (says s (last_text (latest_of s.made)))
   quiet s other = None
 

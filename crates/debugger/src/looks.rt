@@ -1,23 +1,39 @@
-//! Lines that only look.
+//! Lines that only look: what they reply of a world of processes of a program.
 
-use crate::session::Session;
+ghost use Rattle.std.specs.Prelude.{◌≡◌, ◌<◌, List, length, is_err};
+ghost use Rattle.c_tree.specs.declared.program.Program.{Program};
+ghost use Rattle.event_list.specs.declared.Event.{Event};
+ghost use Rattle.nm_outside.specs.Causes.{BelongsTo};
+ghost use Rattle.trace_file.specs.Content.{count_of};
+ghost use Rattle.report.specs.Printing.{Prints};
+ghost use Rattle.report.specs.Runs.{RunsProgram};
+ghost use Rattle.report.specs.Replies as replies;
+ghost use Rattle.debugger.specs.Looks.{value_of, output_of, clock_of, where_of, places_of};
+
 use c_process::{CProc, LookFault};
-use c_tree::Ctype;
 use mailboxes::Mail;
 use nm_base::ProcNo;
 use nm_outside::{Failed, Sink};
-use processes::{Look, Proc};
-use report::{Notice, clock_line, event_line, frame_line, notice_line, output_text, value_line, waiting_line, where_line};
+use processes::Proc;
+use report::{Notice, clock_line, notice_line, output_text, value_line, where_line};
+use trace_file::Trace;
+use world::World;
 
-/// `print P NAME` and `print P NAME I`.
-pub(crate) fn print<'c, M: Mail, O: Sink>(
-    session: &Session<'c, M>,
+/// `print P NAME` and `print P NAME I`: the value of a variable of the process.
+pub(crate) fn put_value<'c, M: Mail, O: Sink>(
+    out: &mut O,
+    world: &World<CProc<'c>, M>,
     p: ProcNo,
     name: &[u8],
     index: Option<u32>,
-    out: &mut O,
-) -> Result<(), Failed> {
-    match session.process(p).value(name, index) {
+) -> Result<(), Failed>
+    requires { p.no < length world.now.processes }
+    ensures text { (program : Program) (E : List Event) → RunsProgram world.now program E
+        → Prints (O.given out.old) (O.given out.new) (O.faults out.old) (O.faults out.new)
+        (value_of program (length world.now.processes) E p.no name.now index) result }
+    ensures cause { BelongsTo (is_err result) (O.faults out.old) (O.faults out.new) }
+{
+    match world.seat(p).process().value(name, index) {
         Ok(seen) => value_line(out, name, index, seen.bits, seen.of),
         Err(LookFault::NoName) => notice_line(out, Notice::NoName),
         Err(LookFault::NeedsIndex) => notice_line(out, Notice::NeedsIndex),
@@ -25,69 +41,70 @@ pub(crate) fn print<'c, M: Mail, O: Sink>(
     }
 }
 
-/// `frames P`: the frames of the process, the innermost first.
-pub(crate) fn frames<'c, M: Mail, O: Sink>(
-    session: &Session<'c, M>,
-    p: ProcNo,
-    out: &mut O,
-) -> Result<(), Failed> {
-    let process = session.process(p);
-    let count = process.frame_count();
-    if count == 0 {
-        return notice_line(out, Notice::NoFrame);
-    }
-    for i in 0..count {
-        let frame = process.frame(i);
-        frame_line(out, i, session.code.function_name(frame.function).as_bytes(), frame.line)?;
-    }
-    Ok(())
-}
-
-/// `where`: for each process how it stands, where it is, and how many of its events it made.
-pub(crate) fn places<'c, M: Mail, O: Sink>(session: &Session<'c, M>, out: &mut O) -> Result<(), Failed> {
-    let world = session.replay.world();
-    for no in 0..world.n() {
-        let p = ProcNo { no };
-        let process = session.process(p);
-        where_line(out, no, process.look(), process.line(), world.count(p), session.trace.count(p))?;
-    }
-    Ok(())
-}
-
 /// `output P`: what the process printed.
-pub(crate) fn output<'c, M: Mail, O: Sink>(
-    session: &Session<'c, M>,
-    p: ProcNo,
+pub(crate) fn put_output<'c, M: Mail, O: Sink>(
     out: &mut O,
-) -> Result<(), Failed> {
-    output_text(out, session.process(p).output())
-}
-
-/// `mail P`: the letters that wait for the process, in the order of their sends.
-pub(crate) fn mail<'c, M: Mail, O: Sink>(
-    session: &Session<'c, M>,
+    world: &World<CProc<'c>, M>,
     p: ProcNo,
-    out: &mut O,
-) -> Result<(), Failed> {
-    let world = session.replay.world();
-    let mut from = 0;
-    let mut none = true;
-    while let Some(letter) = world.mail().next_from(from) {
-        if letter.dest == p {
-            waiting_line(out, world.n(), letter)?;
-            none = false;
-        }
-        from = letter.posted + 1;
-    }
-    if none { notice_line(out, Notice::NoMail) } else { Ok(()) }
+) -> Result<(), Failed>
+    requires { p.no < length world.now.processes }
+    ensures text { (program : Program) (E : List Event) → RunsProgram world.now program E
+        → Prints (O.given out.old) (O.given out.new) (O.faults out.old) (O.faults out.new)
+        (output_of program (length world.now.processes) E p.no) result }
+    ensures cause { BelongsTo (is_err result) (O.faults out.old) (O.faults out.new) }
+{
+    output_text(out, world.seat(p).process().output())
 }
 
 /// `clock P`: the clock of the process.
-pub(crate) fn clock<'c, M: Mail, O: Sink>(
-    session: &Session<'c, M>,
-    p: ProcNo,
+pub(crate) fn put_clock<'c, M: Mail, O: Sink>(
     out: &mut O,
-) -> Result<(), Failed> {
-    let world = session.replay.world();
+    world: &World<CProc<'c>, M>,
+    p: ProcNo,
+) -> Result<(), Failed>
+    requires { p.no < length world.now.processes }
+    ensures text { (program : Program) (E : List Event) → RunsProgram world.now program E
+        → Prints (O.given out.old) (O.given out.new) (O.faults out.old) (O.faults out.new)
+        (clock_of program (length world.now.processes) E p.no) result }
+    ensures cause { BelongsTo (is_err result) (O.faults out.old) (O.faults out.new) }
+{
     clock_line(out, p.no, world.n(), world.clock(p))
+}
+
+// How a process stands, where it is, and how many of its recorded events it made.
+fn put_place<'c, M: Mail, O: Sink>(
+    out: &mut O,
+    world: &World<CProc<'c>, M>,
+    trace: &Trace,
+    p: ProcNo,
+) -> Result<(), Failed>
+    requires process { p.no < length world.now.processes }
+    requires count { p.no < trace.now.n }
+    ensures text { (program : Program) (E : List Event) → RunsProgram world.now program E
+        → Prints (O.given out.old) (O.given out.new) (O.faults out.old) (O.faults out.new)
+        (where_of program (length world.now.processes) E (count_of trace.now) p.no) result }
+    ensures cause { BelongsTo (is_err result) (O.faults out.old) (O.faults out.new) }
+{
+    let process = world.seat(p).process();
+    let look = process.look();
+    let line = process.line();
+    where_line(out, p.no, look, line, world.count(p), trace.count(p))
+}
+
+/// `where`: the same for each process.
+pub(crate) fn put_places<'c, M: Mail, O: Sink>(
+    out: &mut O,
+    world: &World<CProc<'c>, M>,
+    trace: &Trace,
+) -> Result<(), Failed>
+    requires { length world.now.processes ≡ trace.now.n }
+    ensures text { (program : Program) (E : List Event) → RunsProgram world.now program E
+        → Prints (O.given out.old) (O.given out.new) (O.faults out.old) (O.faults out.new)
+        (places_of program (length world.now.processes) E (count_of trace.now)) result }
+    ensures cause { BelongsTo (is_err result) (O.faults out.old) (O.faults out.new) }
+{
+    for no in 0..world.n() {
+        put_place(out, world, trace, ProcNo { no })?;
+    }
+    Ok(())
 }
