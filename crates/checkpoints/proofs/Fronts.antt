@@ -1,5 +1,5 @@
 -- The worlds with at most k events stand first.
-use Rattle.std.proofs.Common.{◌≡◌, ℕ, zero, suc, ◌+◌, ◌-◌, ◌<◌, ◌≤◌, Bool, true, false, List, [], ◌∷◌, length, take, slice_index_or, refl, sym, ap, ◌∙◌, subst, arith, ⊎_elim}
+use Rattle.std.proofs.Common.{◌≡◌, ℕ, zero, suc, ◌+◌, ◌-◌, ◌<◌, ◌≤◌, true, false, List, [], ◌∷◌, length, take, slice_index_or, refl, sym, ap, ◌∙◌, subst, arith, ⊎_elim}
 use Rattle.std.specs.Prelude.{All, nat_le, cond, Some, slice_get}
 use Rattle.std.specs.List.{AllPairs}
 use Rattle.std.proofs.lemmas.Bool.{cases_lt}
@@ -58,7 +58,8 @@ module _ {P M : Type 0} (k : ℕ) where
   one_more_few xs n e lt few first i d below =
       ⊎_elim (λ before. first i d before)
       (λ last. let at : i ≡ n = omega (arith, below, last) in
-      subst (λ j. (slice_index_or xs j d).events ≤ k) (sym at) (subst (λ w. w.events ≤ k) (get_or_default xs n e d lt) few))
+      subst (λ j. (slice_index_or xs j d).events ≤ k) (sym at)
+      (subst (λ w. w.events ≤ k) (get_or_default xs n e d lt) few))
       (cases_lt i n)
 
 -- the last has the most events
@@ -70,11 +71,14 @@ last_is_longest xs v rises some is i d within =
     subst (λ w. w.events ≤ v.events) (get_or_default xs i v d within) (omega (arith, lt, ap (λ w. w.events) is)))
     (λ last. let at : i ≡ length xs - 1 = omega (arith, within, last) in
     subst (λ j. (slice_index_or xs j d).events ≤ v.events) (sym at)
-    (subst (λ w. w.events ≤ v.events) (get_or_default xs (length xs - 1) v d (omega (arith, some))) (subst (λ w. w.events ≤ v.events) is (omega arith))))
+    (subst (λ w. w.events ≤ v.events) (get_or_default xs (length xs - 1) v d (omega (arith, some)))
+    (subst (λ w. w.events ≤ v.events) is (omega arith))))
     (cases_lt i (length xs - 1))
 
-pub longest_from_last : {P M : Type 0} (xs : List (Parts P M)) (v : Parts P M) → AllPairs (λ v w. v.events < w.events) xs
-    → Some v ≡ slice_get xs (length xs - 1) → All (λ w. w.events ≤ v.events) xs
+pub longest_from_last : {P M : Type 0} (xs : List (Parts P M)) (v : Parts P M)
+    → AllPairs (λ v w. v.events < w.events) xs → Some v ≡ slice_get xs (length xs - 1)
+    → All (λ w. w.events ≤ v.events) xs
 longest_from_last [] v rises e = λ k d lt. absurd (omega (arith, lt))
 longest_from_last (x ∷ xs) v rises e =
-    last_is_longest (x ∷ xs) v rises (omega arith) (same_Some _ _ (e ∙ slice_get-get_or (x ∷ xs) (length (x ∷ xs) - 1) v (omega arith)))
+    last_is_longest (x ∷ xs) v rises (omega arith)
+    (same_Some _ _ (e ∙ slice_get-get_or (x ∷ xs) (length (x ∷ xs) - 1) v (omega arith)))

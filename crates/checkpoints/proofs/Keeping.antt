@@ -1,5 +1,5 @@
 -- What is kept stays in order when one more is kept and when some are dropped.
-use Rattle.std.proofs.Common.{◌≡◌, ℕ, ◌+◌, ◌*◌, ◌<◌, ◌≤◌, Bool, true, false, List, [], ◌∷◌, ◌++◌, length, take, slice_index_or, refl, sym, ap, ◌∙◌, subst, arith}
+use Rattle.std.proofs.Common.{◌≡◌, ℕ, ◌<◌, ◌≤◌, Bool, true, false, List, [], ◌∷◌, ◌++◌, length, take, slice_index_or, refl, sym, subst, arith}
 use Rattle.std.specs.Prelude.{nat_lt, cond}
 use Rattle.std.specs.List.{AllPairs}
 use Rattle.std.proofs.lemmas.Bool.{ltb-true}
@@ -31,7 +31,9 @@ module _ {P M : Type 0} where
   kept_front xs n le h = record {
     rises = λ i j d lt within.
         let short = length-take n xs in
-        subst (λ v. v.events < (slice_index_or (take n xs) j d).events) (sym (get_or-take n xs i d (omega (arith, lt, within, short))))
-        (subst (λ v. (slice_index_or xs i d).events < v.events) (sym (get_or-take n xs j d (omega (arith, within, short)))) (h.rises i j d lt (omega (arith, within, short))));
+        subst (λ v. v.events < (slice_index_or (take n xs) j d).events)
+        (sym (get_or-take n xs i d (omega (arith, lt, within, short))))
+        (subst (λ v. (slice_index_or xs i d).events < v.events)
+        (sym (get_or-take n xs j d (omega (arith, within, short)))) (h.rises i j d lt (omega (arith, within, short))));
     few = omega (arith, length-take n xs, h.few);
   }

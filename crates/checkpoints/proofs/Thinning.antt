@@ -1,9 +1,9 @@
 -- What is left of a list where every other element goes.
-use Rattle.std.proofs.Common.{◌≡◌, ℕ, zero, suc, ◌+◌, ◌*◌, ◌<◌, ◌≤◌, List, [], ◌∷◌, ◌++◌, length, take, drop, refl, sym, ap, ap₂, ◌∙◌, subst, arith}
+use Rattle.std.proofs.Common.{◌≡◌, ℕ, zero, suc, ◌+◌, ◌*◌, ◌≤◌, List, [], ◌∷◌, ◌++◌, length, take, drop, refl, ap, ap₂, ◌∙◌, arith}
 use Rattle.std.specs.Prelude.{All}
 use Rattle.std.specs.List.{AllPairs, remove}
 use Rattle.std.proofs.lemmas.List.{append-nil, take_all, drop_all}
-use Rattle.std.proofs.lemmas.List.Elements.{All-cons, All-head, All-tail, All-nil}
+use Rattle.std.proofs.lemmas.List.Elements.{All-cons, All-head, All-tail}
 use Rattle.checkpoints.specs.Kept.{evens}
 
 module _ {A : Type 0} where
@@ -23,7 +23,8 @@ module _ {A : Type 0} where
   one_out (x ∷ xs) (suc i) = ap (λ l. x ∷ l) (one_out xs i)
 
   pub all_out : (xs : List A) (i : ℕ) → length xs ≤ i → left_at i xs ≡ xs
-  all_out xs i le = ap₂ (λ a b. a ++ evens b) (take_all i xs le) (drop_all (suc i) xs (omega (arith, le))) ∙ append-nil xs
+  all_out xs i le =
+      ap₂ (λ a b. a ++ evens b) (take_all i xs le) (drop_all (suc i) xs (omega (arith, le))) ∙ append-nil xs
 
   pub length_evens : (xs : List A) → 2 * length (evens xs) ≤ length xs + 1
   length_evens [] = omega arith
@@ -33,7 +34,8 @@ module _ {A : Type 0} where
   pub all_evens : (P : A → Type 0) (xs : List A) → All P xs → All P (evens xs)
   all_evens P [] h = h
   all_evens P (x ∷ []) h = h
-  all_evens P (x ∷ y ∷ xs) h = All-cons P x (evens xs) (All-head P x (y ∷ xs) h) (all_evens P xs (All-tail P y xs (All-tail P x (y ∷ xs) h)))
+  all_evens P (x ∷ y ∷ xs) h =
+      All-cons P x (evens xs) (All-head P x (y ∷ xs) h) (all_evens P xs (All-tail P y xs (All-tail P x (y ∷ xs) h)))
 
   module _ (R : A → A → Type 0) where
     pub pairs_first : (x : A) (xs : List A) → AllPairs R (x ∷ xs) → All (R x) xs
@@ -53,4 +55,5 @@ module _ {A : Type 0} where
     pairs_evens (x ∷ []) h = h
     pairs_evens (x ∷ y ∷ xs) h =
         let rest = pairs_rest x (y ∷ xs) h in
-        pairs_more x (evens xs) (all_evens (R x) xs (All-tail (R x) y xs (pairs_first x (y ∷ xs) h))) (pairs_evens xs (pairs_rest y xs rest))
+        pairs_more x (evens xs) (all_evens (R x) xs (All-tail (R x) y xs (pairs_first x (y ∷ xs) h)))
+        (pairs_evens xs (pairs_rest y xs rest))

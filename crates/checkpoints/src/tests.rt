@@ -71,7 +71,7 @@ fn kept_each(
 {
     let mut kept = Checkpoints::new(alloc)?;
     let mut world = beginning(alloc)?;
-    for events in 1..most + 1 {
+    for events in 1..=most {
         go_on(&mut world, alloc, events)?;
         if events % each == 0 && is_longer(&kept, world.events()) {
             kept.keep(alloc, &world)?;

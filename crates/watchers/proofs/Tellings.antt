@@ -42,13 +42,15 @@ told_nothing [] = nobody
 told_nothing (w ∷ ws) = noted (told_nothing ws)
 
 -- told of some events and then of others, they were told of all
-pub told_on : {E F : List Event} {xs ys zs : List Watched} {n m : ℕ} → Told E xs ys n → Told F ys zs m → Told (E ++ F) xs zs (n + m)
+pub told_on : {E F : List Event} {xs ys zs : List Watched} {n m : ℕ} → Told E xs ys n → Told F ys zs m
+    → Told (E ++ F) xs zs (n + m)
 told_on nobody nobody = nobody
 told_on {E} {F} (noted {w} {before = xs} {out = n} rest) (noted {after = zs} {out = m} more) =
     subst (λ v. Told (E ++ F) (w ∷ xs) (v ∷ zs) (n + m)) (sym (told_further w E F)) (noted {w = w} (told_on rest more))
 told_on {E} {F} (noted {w} {before = xs} {out = n} rest) (lacked {after = zs} {out = m} loose more) =
     let put : 1 + (n + m) ≡ n + (1 + m) = omega arith in
-    subst (Told (E ++ F) (w ∷ xs) zs) put (lacked (ap (λ k. k.steady) (sym (same_kind w E)) ∙ loose) (told_on rest more))
+    let before = ap (λ k. k.steady) (sym (same_kind w E)) ∙ loose in
+    subst (Told (E ++ F) (w ∷ xs) zs) put (lacked before (told_on rest more))
 told_on {E} {F} {zs = zs} {m = m} (lacked {w} {before = xs} {out = n} loose rest) more =
     let put : 1 + (n + m) ≡ 1 + n + m = omega arith in
     subst (Told (E ++ F) (w ∷ xs) zs) put (lacked loose (told_on rest more))

@@ -35,7 +35,8 @@ loop-i-preserved g c =
     tellings.one_lacked (λ b. (goal.Watcher-dyn g (b.vtable, b.value)).watched b.value)
     c.loop-i.list.items c.index_mut.result.now c.tell_one.new.w c.loop-i.invariant.0 lt same loose in (
       subst (λ items.
-          IsTelling c.args.e.now (map (λ b. (goal.Watcher-dyn g (b.vtable, b.value)).watched b.value) c.args.list.now.items)
+          IsTelling c.args.e.now
+          (map (λ b. (goal.Watcher-dyn g (b.vtable, b.value)).watched b.value) c.args.list.now.items)
           (map (λ b. (goal.Watcher-dyn g (b.vtable, b.value)).watched b.value) items) c.loop-i.i (c.loop-i.dropped + 1))
           (sym c.remove.ensures.items) told,
       omega (arith, c.loop-i.invariant.1, c.remove.ensures.len),

@@ -17,7 +17,8 @@ pub returns-clause-kept : goal.returns-clause-kept
 returns-clause-kept g c =
     let now =
     c.put_last.ensures
-    ∙ ap (λ l. l ++ c.in_ok-copy.copy ∷ []) (c.thin.ensures.thinned ∙ ap thinned (c.make_room.ensures.same ∙ c.self.view_is)) in
+    ∙ ap (λ l. l ++ c.in_ok-copy.copy ∷ []) (c.thin.ensures.thinned
+    ∙ ap thinned (c.make_room.ensures.same ∙ c.self.view_is)) in
     let k = c.in_ok-copy.ensures in
     record {
       copy = c.in_ok-copy.copy;
