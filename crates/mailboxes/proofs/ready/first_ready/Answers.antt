@@ -1,4 +1,4 @@
-use Rattle.std.proofs.Common.{◌≡◌, ◌+◌, ◌*◌, ◌%◌, refl, sym, ap, ◌∙◌, subst, arith}
+use Rattle.std.proofs.Common.{◌≡◌, ◌+◌, ◌*◌, ◌%◌, refl, sym, ◌∙◌, subst, arith}
 use Rattle.mailboxes.specs.Queues.{is_ready, IsLeastBelow}
 use Rattle.mailboxes.proofs.QueueFacts.{least_none, least_passed, least_more, least_of_few, least_all, few_channels}
 use Rattle.mailboxes.proofs.ready.first_ready.Goals as goal
