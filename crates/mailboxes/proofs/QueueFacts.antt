@@ -1,8 +1,10 @@
 -- Facts on the queues of an ordered mail.
-use Rattle.std.proofs.Common.{◌≡◌, ℕ, zero, suc, ◌+◌, ◌-◌, ◌*◌, ◌%◌, ◌^◌, ◌<◌, ◌≤◌, Bool, true, false, cond, List, [], ◌∷◌, ◌++◌, length, take, drop, set, get_or, get_or-set_same, get_or-set_other, length-set, length-append, replicate, Result, Ok, Err, Some, None, refl, sym, ap, ◌∙◌, subst, inl, inr, arith, add-one, min}
+use Rattle.std.proofs.Common.{◌≡◌, ℕ, zero, suc, ◌+◌, ◌-◌, ◌*◌, ◌/◌, ◌%◌, ◌^◌, ◌<◌, ◌≤◌, Bool, true, false, cond, List, [], ◌∷◌, ◌++◌, length, take, drop, set, get_or, get_or-set_same, get_or-set_other, length-set, length-append, replicate, Result, Ok, Err, Some, None, refl, sym, ap, ◌∙◌, subst, inl, inr, arith, add-one, min}
 use Rattle.std.specs.Prelude.{is_ok, is_err, OnOk, OnErr, option_map, Contains, find, ◌⊎◌, ◌&&◌, ◌||◌, ◌==◌, slice_get, filter, map}
 use Rattle.std.specs.List.{list_any, IsDistinct, AllByRecursion}
 use Rattle.std.proofs.Math.ListN.{drop_of_length-le}
+use Rattle.std.proofs.Math.Nat.{lt-div-mul-add}
+use Rattle.std.proofs.Math.Pow.{ones_lt}
 use Rattle.std.proofs.lemmas.List.{append-nil}
 use Rattle.std.proofs.lemmas.List.Elements.{Contains-append_right}
 use Rattle.std.proofs.Math.Bool.{and-false}
@@ -462,6 +464,13 @@ pub read_is : {X : Type 0} (xs : List X) (i : ℕ) (d x : X) → i < length xs �
 read_is xs i d x l is = same_Some (get_or xs i d) x (sym (read_at xs i d l) ∙ is)
 
 -- as many letters are ready as wait, or fewer
+-- a set that is shifted to nothing has no channel from there on
+pub few_channels : (set n : ℕ) → set / 2 ^ n ≡ 0 → set < 2 ^ n
+few_channels set n h =
+    let some : 0 < 2 ^ n = omega (arith, ones_lt n) in
+    let below = subst (λ q. set < q * 2 ^ n + 2 ^ n) h (lt-div-mul-add {a = set} {b = 2 ^ n} some) in
+    omega (arith, below)
+
 pub fewer_ready : (test : Slot → Bool) (slots : List Slot) → length (filter (λ s. s.waits && test s) slots) ≤ length (waiting_in slots)
 fewer_ready test [] = omega arith
 fewer_ready test (x ∷ xs) = by x.waits (test x) (fewer_ready test xs)
@@ -538,15 +547,19 @@ module _ (mask : ℕ) (lets : LetterId → Bool) (dest set : ℕ) (slots : List 
     ];
   }
 
-  pub least_all : (i : ℕ) → set < 2 ^ 32 → IsLeastBelow slots (is_ready mask lets dest set slots) 32 i → IsLeast slots (is_ready mask lets dest set slots) i
+  -- no channel of the set is n or more
+  pub least_of_few : (n i : ℕ) → set < 2 ^ n → IsLeastBelow slots (is_ready mask lets dest set slots) n i → IsLeast slots (is_ready mask lets dest set slots) i
   unfolding has_channel
-  least_all i few k = record {
+  least_of_few n i few k = record {
     here = k.here;
-    before = λ j s l is. elim (cases_lt s.letter.chan 32) [
+    before = λ j s l is. elim (cases_lt s.letter.chan n) [
       | inl b ↦ k.before j s l is b
-      | inr b ↦ not_in_set s (ap (λ n. n == 1) (bit_at_above set 32 s.letter.chan few b))
+      | inr b ↦ not_in_set s (ap (λ m. m == 1) (bit_at_above set n s.letter.chan few b))
     ];
   }
+
+  pub least_all : (i : ℕ) → set < 2 ^ 32 → IsLeastBelow slots (is_ready mask lets dest set slots) 32 i → IsLeast slots (is_ready mask lets dest set slots) i
+  least_all i few k = least_of_few 32 i few k
 
 -- the letters of the slots that are ready are those that may be accepted
 pub ready_letters : (test : Letter → Bool) (slots : List Slot) → map (λ s. s.letter) (filter (λ s. s.waits && test s.letter) slots) ≡ filter test (waiting_in slots)

@@ -1,5 +1,5 @@
 -- How the queues of an ordered mail lie in its slots. Words of private contracts: no public clause rests on them.
-use Rattle.std.specs.Prelude.{◌≡◌, ℕ, ◌+◌, ◌*◌, ◌%◌, ◌<◌, ◌≤◌, ◌⊎◌, ◌&&◌, ◌==◌, Bool, true, false, List, length, map, filter, Some, slice_get, slice_index_or}
+use Rattle.std.specs.Prelude.{◌≡◌, ℕ, ◌+◌, ◌*◌, ◌%◌, ◌<◌, ◌≤◌, ◌⊎◌, ◌&&◌, Bool, true, false, List, length, map, filter, Some, slice_get, slice_index_or}
 use Rattle.nm_base.specs.declared.letter.LetterId.{LetterId}
 use Rattle.nm_base.specs.declared.letter.Letter.{Letter}
 use Rattle.mailboxes.specs.declared.queues.Slot.{Slot}

@@ -165,7 +165,7 @@ impl Mail for OrderedMail {
 
     fn reserve(&mut self, alloc: Global) -> Result<(), WantOfMemory> {
         if self.queues.is_full_of_taken() {
-            self.queues.compact(alloc)?;
+            self.queues.compact();
         }
         self.queues.reserve()
     }

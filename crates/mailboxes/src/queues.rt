@@ -5,7 +5,8 @@ ghost use Rattle.std.specs.List.{list_any};
 ghost use Rattle.nm_base.specs.declared.letter.Letter.{Letter};
 ghost use Rattle.mailboxes.specs.declared.queues.Slot.{Slot};
 ghost use Rattle.mailboxes.specs.Letters.{Rises, are_rivals, is_first};
-ghost use Rattle.mailboxes.specs.Queues.{no_place, queue_of, at, waiting_in, Chain, Reached, IsLeast, is_ready};
+ghost use Rattle.std.specs.Vec.{vec_capacity};
+ghost use Rattle.mailboxes.specs.Queues.{no_place, queue_of, at, waiting_in, Chain, Reached, Linked, IsLeast, is_ready};
 
 use crate::gate::Gate;
 use crate::ready;
@@ -120,6 +121,7 @@ fn link(next: &mut Vec<usize>, heads: &mut [usize], tails: &mut [usize], place: 
     ensures next_here { at tails.old queue < place → at next.new.items (at tails.old queue) ≡ place }
     ensures next_there { (i : ℕ) → (at tails.old queue < place → i ≡ at tails.old queue → ⊥) → at next.new.items i ≡ at next.old.items i }
     ensures many { length next.new.items ≡ length next.old.items }
+    ensures room { vec_capacity next.new ≡ vec_capacity next.old }
     ensures head_here { at heads.new queue ≡ min (at heads.old queue) place }
     ensures head_there { (q : ℕ) → (q ≡ queue → ⊥) → at heads.new q ≡ at heads.old q }
     ensures tail_here { at tails.new queue ≡ place }
@@ -148,18 +150,33 @@ fn no_places() -> [usize; 1024]
     [NO_PLACE; 1024]
 }
 
-/// Queues of the letters that wait in the slots.
-fn queues_of(alloc: Global, slots: &[Slot]) -> Result<Queues, WantOfMemory>
-    ensures { IfOk result (λ q. waiting_in q.slots ≡ waiting_in slots.now) }
+/// Keeps the slots whose letters wait. It takes no memory.
+fn keep_waiting(slots: &mut Vec<Slot>)
+    ensures { slots.new.items ≡ filter (λ s. s.waits) slots.old.items }
 {
-    let mut fresh = Queues::new(alloc);
-    for slot in slots {
-        if !slot.waits {
-            continue;
+    slots.retain(|s| s.waits);
+}
+
+/// Links slots from nothing. It takes no memory where there is room for their links.
+fn link_anew(
+    slots: &[Slot],
+    next: &mut Vec<usize>,
+    heads: &mut [usize; 1024],
+    tails: &mut [usize; 1024],
+)
+    requires room { length slots.now ≤ vec_capacity next.old }
+    ensures linked { Linked slots.now next.new.items heads.new tails.new }
+{
+    next.clear();
+    *heads = no_places();
+    *tails = no_places();
+    for (place, slot) in slots.iter().enumerate() {
+        match next.push(NO_PLACE) {
+            Ok(()) => {}
+            Err(_) => unreachable!(),
         }
-        fresh.push(slot.letter)?;
+        link(next, heads, tails, place, queue_of(&slot.letter));
     }
-    Ok(fresh)
 }
 
 impl Queues {
@@ -195,41 +212,17 @@ impl Queues {
             && self.slots.iter().filter(|s| s.waits).count() <= len / 2
     }
 
-    /// Whether no letter waits.
-    fn is_empty(&self) -> bool
-        ensures { result ≡ true → waiting_in self.now.slots ≡ [] }
-    {
-        for slot in self.slots.iter() {
-            if slot.waits {
-                return false;
-            }
-        }
-        true
-    }
-
-    /// Lets go of all slots, and of no room.
-    fn clear(&mut self)
-        ensures { self.new.slots ≡ [] }
-    {
-        self.slots.clear();
-        self.next.clear();
-        self.heads = no_places();
-        self.tails = no_places();
-    }
-
-    /// Lets go of the slots of letters that were taken; it takes no memory where none waits. It is kept
-    /// out of its caller, which would pay at each call for the room of new queues.
-    #[inline(never)]
-    pub(crate) fn compact(&mut self, alloc: Global) -> Result<(), WantOfMemory>
+    /// Lets go of the slots of letters that were taken. It takes no memory.
+    pub(crate) fn compact(&mut self)
         ensures { waiting_in self.new.slots ≡ waiting_in self.old.slots }
     {
-        if self.is_empty() {
-            self.clear();
-            return Ok(());
-        }
-        let fresh = queues_of(alloc, self.slots.as_slice())?;
-        *self = fresh;
-        Ok(())
+        keep_waiting(&mut self.slots);
+        link_anew(
+            self.slots.as_slice(),
+            &mut self.next,
+            &mut self.heads,
+            &mut self.tails,
+        );
     }
 
     /// Makes room for one more letter.

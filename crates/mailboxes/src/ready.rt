@@ -98,6 +98,9 @@ pub(crate) fn first_ready<G: Gate>(
     let first = (dest.no % 32) as usize * 32;
     let mut least = slots.len();
     for chan in 0..32 {
+        if set >> chan == 0 {
+            return least;
+        }
         if !has_channel(set, chan) {
             continue;
         }

@@ -2,7 +2,7 @@ use Rattle.std.proofs.Common.{sym, ap, ◌∙◌, arith}
 use Rattle.std.specs.Prelude.{◌&&◌}
 use Rattle.mailboxes.specs.Letters.{are_rivals}
 use Rattle.mailboxes.specs.Queues.{queue_of}
-use Rattle.mailboxes.proofs.QueueFacts.{step_at, weaker, any_take, none_preceding}
+use Rattle.mailboxes.proofs.QueueFacts.{step_at, weaker, none_preceding}
 use Rattle.mailboxes.proofs.queues.is_preceded.Goals as goal
 
 pub loop-i-init : goal.loop-i-init

@@ -1,6 +1,4 @@
-use Rattle.std.proofs.Common.{◌∷◌, ◌+◌, length, drop, Some, sym, ap, ◌∙◌, arith}
-use Rattle.std.specs.Prelude.{filter, map, slice_get}
-use Rattle.mailboxes.specs.declared.queues.Slot.{Slot}
+use Rattle.std.proofs.Common.{◌+◌, length, sym, ap, ◌∙◌, arith}
 use Rattle.mailboxes.specs.Letters.{is_allowed}
 use Rattle.mailboxes.specs.Queues.{is_ready, waiting_in}
 use Rattle.mailboxes.proofs.ListFacts.{rises_length}

@@ -1,8 +1,5 @@
-use Rattle.std.proofs.Common.{◌∷◌, ◌+◌, length, drop, Some, sym, ap, ◌∙◌, arith}
-use Rattle.std.specs.Prelude.{filter, map, slice_get}
-use Rattle.mailboxes.specs.declared.queues.Slot.{Slot}
-use Rattle.mailboxes.specs.Letters.{is_allowed}
-use Rattle.mailboxes.specs.Queues.{is_ready, waiting_in}
+use Rattle.std.proofs.Common.{sym, ◌∙◌, arith}
+use Rattle.mailboxes.specs.Queues.{is_ready}
 use Rattle.std.proofs.lemmas.Option.{slice_get_within}
 use Rattle.mailboxes.proofs.QueueFacts.{step_on, slot_at}
 use Rattle.mailboxes.proofs.ready.first_of_queue.Goals as goal

@@ -1,4 +1,4 @@
-use Rattle.std.proofs.Common.{not, take, length, sym, ap, ◌∙◌}
+use Rattle.std.proofs.Common.{not, take, sym, ap, ◌∙◌}
 use Rattle.std.specs.Prelude.{◌&&◌}
 use Rattle.std.specs.List.{list_any}
 use Rattle.mailboxes.specs.declared.queues.Slot.{Slot}

@@ -1,8 +1,7 @@
-use Rattle.std.proofs.Common.{◌∷◌, ◌+◌, length, drop, Some, sym, ap, ◌∙◌, arith}
+use Rattle.std.proofs.Common.{◌∷◌, ◌+◌, drop, Some, sym, ap, ◌∙◌}
 use Rattle.std.specs.Prelude.{filter, map, slice_get}
 use Rattle.mailboxes.specs.declared.queues.Slot.{Slot}
-use Rattle.mailboxes.specs.Letters.{is_allowed}
-use Rattle.mailboxes.specs.Queues.{is_ready, waiting_in}
+use Rattle.mailboxes.specs.Queues.{is_ready}
 use Rattle.mailboxes.proofs.ListFacts.{found}
 use Rattle.mailboxes.proofs.QueueFacts.{slot_at, read_is, kept_from, left_from, get_after}
 use Rattle.mailboxes.proofs.ready.kth_ready.Goals as goal

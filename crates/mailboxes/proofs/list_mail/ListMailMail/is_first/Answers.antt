@@ -1,4 +1,4 @@
-use Rattle.std.proofs.Common.{◌≡◌, not, List, subst, sym, ap, ◌∙◌}
+use Rattle.std.proofs.Common.{not, List, subst, ap, ◌∙◌}
 use Rattle.std.specs.Prelude.{Contains}
 use Rattle.std.specs.List.{list_any}
 use Rattle.nm_base.specs.declared.letter.Letter.{Letter}

@@ -1,4 +1,4 @@
-use Rattle.std.proofs.Common.{[], subst, sym, ap}
+use Rattle.std.proofs.Common.{subst, sym, ap}
 use Rattle.mailboxes.specs.Letters.{Rises}
 use Rattle.mailboxes.specs.Queues.{waiting_in}
 use Rattle.mailboxes.proofs.ListFacts.{distinct_none}

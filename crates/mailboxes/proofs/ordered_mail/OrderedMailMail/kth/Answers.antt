@@ -1,6 +1,5 @@
-use Rattle.std.proofs.Common.{◌<◌, ◌∷◌, [], length, Some, None, refl, sym, ap, ◌∙◌, subst}
-use Rattle.std.specs.Prelude.{slice_get, map, option_map, filter, ◌&&◌}
-use Rattle.mailboxes.specs.declared.queues.Slot.{Slot}
+use Rattle.std.proofs.Common.{◌<◌, sym, ap, ◌∙◌, subst}
+use Rattle.std.specs.Prelude.{slice_get}
 use Rattle.mailboxes.specs.Letters.{is_allowed}
 use Rattle.mailboxes.specs.Queues.{waiting_in}
 use Rattle.mailboxes.proofs.QueueFacts.{ready_count, ready_names}

@@ -1,11 +1,9 @@
-use Rattle.std.proofs.Common.{◌≡◌, ◌<◌, List, length, refl, sym, ap, ◌∙◌, subst}
-use Rattle.std.specs.Prelude.{slice_get}
+use Rattle.std.proofs.Common.{ap, ◌∙◌}
 use Rattle.std.proofs.lemmas.Bool.{and_parts}
-use Rattle.mailboxes.specs.declared.queues.Slot.{Slot}
-use Rattle.mailboxes.specs.Letters.{is_first, is_named}
+use Rattle.mailboxes.specs.Letters.{is_named}
 use Rattle.mailboxes.specs.Queues.{waiting_in}
-use Rattle.mailboxes.proofs.ListFacts.{asked_of, named_is}
-use Rattle.mailboxes.proofs.QueueFacts.{slot_at, waits_at, parted_by, rises_left, distinct_left, leaves_parted}
+use Rattle.mailboxes.proofs.ListFacts.{named_is}
+use Rattle.mailboxes.proofs.QueueFacts.{slot_at, parted_by, rises_left, distinct_left, leaves_parted}
 use Rattle.mailboxes.proofs.ordered_mail.OrderedMailMail.take.Goals as goal
 
 pub invariant_of-self : goal.invariant_of-self

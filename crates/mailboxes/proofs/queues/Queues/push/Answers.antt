@@ -1,4 +1,4 @@
-use Rattle.std.proofs.Common.{◌≡◌, true, ◌<◌, List, length, sym, ap, ◌∙◌, arith}
+use Rattle.std.proofs.Common.{◌≡◌, true, ◌<◌, length, ◌∙◌, arith}
 use Rattle.mailboxes.specs.declared.queues.Slot.{Slot}
 use Rattle.mailboxes.specs.Queues.{no_place}
 use Rattle.mailboxes.proofs.QueueFacts.{linked_push, when_ok}

@@ -1,8 +1,8 @@
-use Rattle.std.proofs.Common.{◌≡◌, false, length, set, refl, subst, sym, ap, ◌∙◌, arith, length-set}
+use Rattle.std.proofs.Common.{false, length, refl, subst, sym, ap, ◌∙◌, arith}
 use Rattle.std.specs.Prelude.{slice_get, ◌<◌}
 use Rattle.std.proofs.lemmas.Option.{same_Some}
 use Rattle.mailboxes.specs.declared.queues.Slot.{Slot}
-use Rattle.mailboxes.specs.Queues.{Linked, Kept}
+use Rattle.mailboxes.specs.Queues.{Kept}
 use Rattle.mailboxes.proofs.QueueFacts.{got, linked_taken, linked_moved}
 use Rattle.mailboxes.proofs.queues.Queues.take.Goals as goal
 
