@@ -9,3 +9,4 @@ pub mod Known
 pub mod Values
 pub mod Frames
 pub mod Inspected
+pub mod Begun

@@ -3,4 +3,5 @@ pub mod Shown
 pub mod Values
 pub mod Following
 pub mod Compiled
+pub mod Begun
 pub mod private

@@ -28,7 +28,7 @@ use Rattle.c_process.specs.declared.process.CProc.{CProc}
 use Rattle.report.specs.Runs.{RunsProgram}
 use Rattle.nm_top.specs.Schedules.{seen_turn}
 use Rattle.nm_top.specs.Finishing.{replayed}
-use Rattle.nm_top.specs.private.Begun.{AreBegun}
+use Rattle.c_process.specs.Begun.{AreBegun}
 use Rattle.nm_top.specs.private.Replaying.{ReplaysProgram, AfterReplay}
 use Rattle.nm_top.proofs.StartLaws.{begins, runs_program, get_mapped}
 use Rattle.nm_top.proofs.TurnLaws.{replay_more}

@@ -1,6 +1,6 @@
 -- The world of a program before its first event and after the turns of a schedule.
-use Rattle.std.proofs.Common.{◌≡◌, ℕ, zero, suc, ◌+◌, List, [], ◌∷◌, ◌++◌, length, Option, Some, None, refl, sym, ap, ◌∙◌, subst, inl, inr, arith, length-append}
-use Rattle.std.specs.Prelude.{map, slice_get, option_map, ◌⊎◌}
+use Rattle.std.proofs.Common.{◌≡◌, ℕ, List, [], length, Option, Some, None, refl, sym, ap, ◌∙◌, subst}
+use Rattle.std.specs.Prelude.{map, slice_get, option_map}
 use Rattle.std.proofs.lemmas.Option.{slice_get-map, same_Some}
 use Rattle.c_tree.specs.declared.program.Program.{Program}
 use Rattle.c_tree.specs.Play.{script_of}
@@ -11,12 +11,12 @@ use Rattle.event_list.specs.declared.Event.{Event}
 use Rattle.event_list.specs.Laws.{AreLawful}
 use Rattle.world.specs.Worlds.{Parts, IsWorldOf}
 use Rattle.world.specs.Outcomes.{Begins}
-use Rattle.world.proofs.Places.{map_length, map_append}
+use Rattle.world.proofs.Places.{map_length}
+use Rattle.c_process.specs.Begun.{AreBegun}
 use Rattle.c_process.specs.Standing.{IsCodeOf}
 use Rattle.c_process.specs.contracts.script.CProcProc.TheImpl as process
 use Rattle.c_process.specs.declared.process.CProc.{CProc}
 use Rattle.report.specs.Runs.{RunsProgram}
-use Rattle.nm_top.specs.private.Begun.{IsBegun, AreBegun}
 
 -- lists that a map takes to one list have at each place elements that it takes to one
 pub get_mapped : {X Y : Type 0} (f : X → Y) (xs ys : List X) (i : ℕ) (x : X) → map f xs ≡ map f ys → slice_get xs i ≡ Some x → (y : X) × (slice_get ys i ≡ Some y) × (f x ≡ f y)
@@ -27,30 +27,7 @@ get_mapped {X = X} f xs ys i x e at =
     go None k h = absurd cc
     go (Some y) k h = (y, k, same_Some (f x) (f y) h)
 
--- an element of a list with one more is one of those before, or the last one
-last_or_before : {X : Type 0} (xs : List X) (y x : X) (i : ℕ) → slice_get (xs ++ y ∷ []) i ≡ Some x → (slice_get xs i ≡ Some x) ⊎ ((i ≡ length xs) × (y ≡ x))
-last_or_before [] y x zero at = inr (refl, same_Some y x at)
-last_or_before [] y x (suc i) at = absurd cc
-last_or_before (z ∷ xs) y x zero at = inl at
-last_or_before (z ∷ xs) y x (suc i) at = elim (last_or_before xs y x i at) [
-  | inl k ↦ inl k
-  | inr k ↦ inr (ap suc k.0, k.1)
-]
-
 module _ (code : Code) (n : ℕ) where
-  -- one seat more
-  pub begun_more : (many : ℕ) (seats : List (Seat CProc)) (seat : Seat CProc) (x : CProc) → AreBegun code n many seats → process_in seat ≡ x → IsBegun code n many x
-      → AreBegun code n (many + 1) (seats ++ seat ∷ [])
-  begun_more many seats seat x a is b = record {
-    count = omega (arith, a.count, length-append seats (seat ∷ []));
-    each = λ me y at. elim (last_or_before (map process_in seats) (process_in seat) y me (ap (λ ps. slice_get ps me) (sym (map_append process_in seats (seat ∷ []))) ∙ at)) [
-      | inl k ↦ a.each me y k
-      | inr k ↦
-          let here : many ≡ me = sym (k.0 ∙ map_length process_in seats ∙ a.count) in
-          subst (λ m. IsBegun code n m y) here (subst (IsBegun code n many) (sym is ∙ k.1) b)
-    ];
-  }
-
   -- the processes are at the beginning of the program's scripts
   pub begins : (p : Program) (seats : List (Seat CProc)) → AreLawful (script_of p n) → IsCodeOf p code → AreBegun code n n seats
       → Begins process.stands_for-value.it (map process_in seats) (script_of p n)

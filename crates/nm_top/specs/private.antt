@@ -1,4 +1,3 @@
-pub mod Begun
 pub mod Certifications
 pub mod Named
 pub mod Recorded

@@ -17,10 +17,10 @@ ghost use Rattle.nm_top.specs.private.Recorded.{HasRecorded, recorded_work};
 ghost use Rattle.nm_top.specs.private.Works.{Carries, Tells, outside};
 
 use crate::run::{RunInput, demanded};
-use crate::start::{compiled, seats_of};
+use crate::start::compiled;
 use crate::status::Status;
 use crate::tell::tell;
-use c_process::CProc;
+use c_process::{CProc, seats_of};
 use mailboxes::OrderedMail;
 use nm_outside::{Cabinet, Failed, Sink};
 use recorder::{RecordFault, Recorded, record_run};

@@ -25,11 +25,11 @@ ghost use Rattle.nm_top.specs.private.Works.{Carries, Counts, Gives, outside};
 
 use crate::fetch::schedule_in;
 use crate::pair::{Pair, pair_in};
-use crate::start::{compiled, seats_of};
+use crate::start::compiled;
 use crate::status::Status;
 use crate::stop::Stop;
 use crate::tell::tell;
-use c_process::CProc;
+use c_process::{CProc, seats_of};
 use mailboxes::OrderedMail;
 use nm_base::WantOfMemory;
 use nm_outside::{Cabinet, Failed, Sink};

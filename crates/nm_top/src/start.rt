@@ -1,22 +1,21 @@
 //! The world of a program.
 
-ghost use Rattle.std.specs.Prelude.{◌≡◌, ◌≤◌, length, IfOk};
+ghost use Rattle.std.specs.Prelude.{◌≡◌, length, IfOk};
 ghost use Rattle.c_tree.specs.declared.program.Program.{Program};
 ghost use Rattle.stack_code.specs.View.{seen_code};
 ghost use Rattle.c_process.specs.Standing.{IsCodeOf};
 ghost use Rattle.report.specs.Runs.{RunsProgram};
 ghost use Rattle.schedules.specs.Bounds.{AreFewTurns};
 ghost use Rattle.nm_top.specs.Runs.{run_of_program};
-ghost use Rattle.nm_top.specs.private.Begun.{AreBegun};
 ghost use Rattle.nm_top.specs.private.Named.{AreFew};
 
 use crate::turns::make_turns;
 use c_compile::compile;
-use c_process::CProc;
+use c_process::{CProc, seats_of};
 use c_tree::Program;
 use mailboxes::{Mail, OrderedMail};
-use nm_base::{ProcNo, WantOfMemory};
-use processes::{Proc, Seat};
+use nm_base::WantOfMemory;
+use processes::Proc;
 use schedules::Schedule;
 use stack_code::Code;
 use std::alloc::Global;
@@ -28,26 +27,6 @@ pub fn compiled(alloc: Global, program: &Program) -> Result<Code, WantOfMemory>
 {
     let code = compile(alloc, program)?;
     Ok(code)
-}
-
-/// The processes of a program, each before its first event.
-pub fn seats_of<'c>(
-    alloc: Global,
-    code: &'c Code,
-    n: u8,
-) -> Result<Vec<Seat<CProc<'c>>>, WantOfMemory>
-    requires { n ≤ 32 }
-    ensures { IfOk result (λ seats. AreBegun (seen_code code.now) n n seats.items) }
-{
-    let mut seats = Vec::new(alloc);
-    for me in 0..n {
-        let process = CProc::new(alloc, code, ProcNo { no: me }, n)?;
-        match seats.push(Seat::begin(process)) {
-            Ok(()) => {}
-            Err(_) => return Err(WantOfMemory),
-        }
-    }
-    Ok(seats)
 }
 
 /// The world after the turns of a schedule, of as many processes that run this code. The channels of the

@@ -1,8 +1,8 @@
 //! Going back in a replay.
 
-ghost use Rattle.std.specs.Prelude.{◌≡◌, ℕ, ◌≤◌, length, map, IfOk, OnOk, OnErr};
+ghost use Rattle.std.specs.Prelude.{◌≡◌, ◌≤◌, length, map, IfOk, OnOk, OnErr};
 ghost use Rattle.replay_core.specs.Replaying.{ReplaysAll, IsSameRun};
-ghost use Rattle.replay_core.specs.Backwards.{IsSomeFirstPicked, ReplaysFront, with_world};
+ghost use Rattle.replay_core.specs.Backwards.{GoesBack, HasWayBack, with_world};
 
 use crate::replay::Replay;
 use mailboxes::Mail;
@@ -17,12 +17,11 @@ impl<P: Proc, M: Mail> Replay<P, M> {
     /// world `from` is one after some of these events, of processes of the same origins; those that
     /// are missing are made again. Where memory is refused the replay is as before.
     pub fn go_back(&mut self, alloc: Global, from: World<P, M>, to: u32) -> Result<(), WantOfMemory>
-        requires picked { IsSomeFirstPicked P.stands_for self.old }
-        requires front { ReplaysFront P.stands_for self.old (with_world self.old from from.events) from.events }
+        requires way { HasWayBack P.stands_for self.old from }
         requires reached { from.events ≤ to }
         requires within { to ≤ length self.old.events }
         requires origins { map P.origin_of from.processes ≡ map P.origin_of self.old.world.processes }
-        ensures back { OnOk result (ReplaysFront P.stands_for self.old self.new to) }
+        ensures back { OnOk result (GoesBack P.stands_for self.old from self.new to) }
         ensures refused { OnErr result (ReplaysAll P.stands_for self.old self.new) }
         ensures same { IsSameRun P.origin_of self.old self.new }
     {
@@ -39,11 +38,10 @@ impl<P: Proc, M: Mail> Replay<P, M> {
         from: World<P, M>,
         to: u32,
     ) -> Result<World<P, M>, WantOfMemory>
-        requires picked { IsSomeFirstPicked P.stands_for self.now }
-        requires front { ReplaysFront P.stands_for self.now (with_world self.now from from.events) from.events }
+        requires way { HasWayBack P.stands_for self.now from }
         requires reached { from.events ≤ to }
         requires within { to ≤ length self.now.events }
-        ensures made { IfOk result (λ w. ReplaysFront P.stands_for self.now (with_world self.now w to) to) }
+        ensures made { IfOk result (λ w. GoesBack P.stands_for self.now from (with_world self.now w to) to) }
         ensures origins { IfOk result (λ w. map P.origin_of w.processes ≡ map P.origin_of from.processes) }
     {
         let mut world = from;

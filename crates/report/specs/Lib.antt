@@ -1,4 +1,5 @@
 pub mod Printing
 pub mod Texts
+pub mod Replies
 pub mod Runs
 pub mod Follows

@@ -52,12 +52,17 @@ cause_name DepthFull = codes "DepthFull"
 cause_name DataFull = codes "DataFull"
 cause_name OutputFull = codes "OutputFull"
 
--- how a process stands; the line is that of a fault
+-- how a process stands
+abbrev pub status_text : Look → List ℕ
+status_text Able = codes "able"
+status_text (Waiting set) = codes "waiting 0x" ++ hex_digits set
+status_text (Ended value) = codes "ended " ++ signed_decimal value
+status_text (Faulted cause) = codes "faulted " ++ cause_name cause
+
+-- the same, with the line of a fault
 abbrev pub look_text : Look → ℕ → List ℕ
-look_text Able line = codes "able"
-look_text (Waiting set) line = codes "waiting 0x" ++ hex_digits set
-look_text (Ended value) line = codes "ended " ++ signed_decimal value
-look_text (Faulted cause) line = codes "faulted " ++ cause_name cause ++ codes " at line " ++ decimal line
+look_text (Faulted cause) line = status_text (Faulted cause) ++ codes " at line " ++ decimal line
+look_text other line = status_text other
 
 abbrev pub process_text : ℕ → List ℕ
 process_text p = codes "== process " ++ decimal p ++ codes " "
@@ -89,6 +94,10 @@ sizes_line start notes lost bytes =
 
 abbrev pub trace_line : ℕ → ℕ → ℕ → List ℕ
 trace_line notes lost bytes = sizes_line (codes "== trace notes ") notes lost bytes
+
+-- what watcher k says at the end of a replay
+abbrev pub watched_line : ℕ → List ℕ → List ℕ
+watched_line k said = codes "== watch " ++ decimal k ++ codes ": " ++ said ++ codes "\n"
 
 abbrev pub turns_line : ℕ → ℕ → List ℕ
 turns_line turns idle = codes "== turns " ++ decimal turns ++ codes ", idle " ++ decimal idle ++ codes "\n"

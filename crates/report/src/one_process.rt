@@ -11,7 +11,7 @@ use nm_outside::{Failed, Sink};
 use processes::Look;
 
 /// The name of a cause, as it is printed.
-fn cause_name(cause: FaultCause) -> &'static [u8]
+pub(crate) fn cause_name(cause: FaultCause) -> &'static [u8]
     ensures { result.now ≡ texts.cause_name cause }
 {
     match cause {
@@ -28,16 +28,27 @@ fn cause_name(cause: FaultCause) -> &'static [u8]
     }
 }
 
-// How a process stands. The line is that of a fault.
-fn put_look<O: Sink>(out: &mut O, look: Look, line: u32) -> Result<(), Failed>
+/// How a process stands.
+pub(crate) fn put_status<O: Sink>(out: &mut O, look: Look) -> Result<(), Failed>
     ensures { Prints (O.given out.old) (O.given out.new) (O.faults out.old) (O.faults out.new)
-        (texts.look_text look line) result }
+        (texts.status_text look) result }
 {
     let mut digits = Buffer::new();
     match look {
         Look::Able => put_pieces(out, &[b"able"]),
         Look::Waiting { set } => put_pieces(out, &[b"waiting 0x", hex_digits(set).as_slice()]),
         Look::Ended { value } => put_pieces(out, &[b"ended ", digits.format(value).as_bytes()]),
+        Look::Faulted { cause } => put_pieces(out, &[b"faulted ", cause_name(cause)]),
+    }
+}
+
+// How a process stands, with the line of a fault.
+fn put_look<O: Sink>(out: &mut O, look: Look, line: u32) -> Result<(), Failed>
+    ensures { Prints (O.given out.old) (O.given out.new) (O.faults out.old) (O.faults out.new)
+        (texts.look_text look line) result }
+{
+    let mut digits = Buffer::new();
+    match look {
         Look::Faulted { cause } => put_pieces(
             out,
             &[
@@ -47,6 +58,7 @@ fn put_look<O: Sink>(out: &mut O, look: Look, line: u32) -> Result<(), Failed>
                 digits.format(line).as_bytes(),
             ],
         ),
+        other => put_status(out, other),
     }
 }
 
@@ -108,8 +120,8 @@ fn put_head<O: Sink>(
     put_counts(out, events, bytes)
 }
 
-// The output, with a newline behind it if it doesn't end in one.
-fn put_output<O: Sink>(out: &mut O, output: &[u8]) -> Result<(), Failed>
+/// The output, with a newline behind it if it doesn't end in one.
+pub(crate) fn put_output<O: Sink>(out: &mut O, output: &[u8]) -> Result<(), Failed>
     ensures { Prints (O.given out.old) (O.given out.new) (O.faults out.old) (O.faults out.new)
         (output.now ++ texts.line_end output.now) result }
 {

@@ -1,11 +1,14 @@
 //! The texts, through a sink in memory.
 
 use crate::{
-    Refusal, block, certificate, certificates_line, refusal, stopped_line, summary, trace_line,
-    turns_line, upgraded_line,
+    Notice, Refusal, Spot, at_line, block, broke_line, certificate, certificates_line,
+    cleared_line, clock_line, detached_line, event_line, frame_line, notice_line, output_text,
+    refusal, set_line, stopped_line, summary, trace_line, turns_line, upgraded_line, value_line,
+    waiting_line, watch_line, watched_line, watcher_line, where_line,
 };
 use cut_witness::{Witness, WitnessTurn};
-use nm_base::{FaultCause, LetterId, List, ProcNo};
+use event_list::Event;
+use nm_base::{Ctype, FaultCause, Kind, Letter, LetterId, List, ProcNo, Stamp};
 use nm_outside::{ListSink, SinkFail};
 use processes::Look;
 use std::alloc::Global;
@@ -150,9 +153,10 @@ fn lines_of_traces(rt: HostRuntime) -> Result<(), Fail> {
     assert!(rt; stopped_line(&mut out, 200).is_ok());
     assert!(rt; upgraded_line(&mut out, 1, 2, 98).is_ok());
     assert!(rt; certificates_line(&mut out, 1).is_ok());
+    assert!(rt; watched_line(&mut out, 0, b"letters 2").is_ok());
     assert_eq!(rt;
         out.bytes(),
-        b"== trace notes 1, lost 0, bytes 94\n== turns 31, idle 9\nstopped: want of memory after 200 turns\nupgraded: notes 1, lost 2, bytes 98\n== certificates 1\n".as_slice()
+        b"== trace notes 1, lost 0, bytes 94\n== turns 31, idle 9\nstopped: want of memory after 200 turns\nupgraded: notes 1, lost 2, bytes 98\n== certificates 1\n== watch 0: letters 2\n".as_slice()
     );
     Ok(())
 }
@@ -201,6 +205,119 @@ fn certificates(rt: HostRuntime) -> Result<(), Fail> {
         assert!(rt; certificate(&mut out, &w).is_ok());
         assert_eq!(rt; out.bytes(), text.as_bytes());
     }
+    Ok(())
+}
+
+/// Event 4 of process 1.
+fn event(kind: Kind) -> Event {
+    Event {
+        proc: ProcNo { no: 1 },
+        number: 4,
+        kind,
+    }
+}
+
+#[test]
+fn events(rt: HostRuntime) -> Result<(), Fail> {
+    let alloc = rt.alloc();
+    let sent = Kind::Sent {
+        number: 0,
+        dest: ProcNo { no: 2 },
+        chan: 31,
+        len: 1,
+        words: [0; 8],
+    };
+    let accepted = Kind::Accepted {
+        set: 0xa0,
+        id: letter(2, 7),
+    };
+    let faulted = Kind::Faulted {
+        cause: FaultCause::Index,
+    };
+    let table = [
+        (Kind::Line { line: 12 }, "1.4 line 12\n"),
+        (sent, "1.4 sent 1.0 to 2 on 31\n"),
+        (accepted, "1.4 accepted 2.7 set 0x000000a0\n"),
+        (Kind::Printed { bytes: 3 }, "1.4 printed 3\n"),
+        (Kind::Ended { value: -1 }, "1.4 ended -1\n"),
+        (faulted, "1.4 faulted Index\n"),
+    ];
+    for (kind, text) in table {
+        let mut out = sink(alloc)?;
+        assert!(rt; event_line(&mut out, &event(kind)).is_ok());
+        assert_eq!(rt; out.bytes(), text.as_bytes());
+    }
+    Ok(())
+}
+
+#[test]
+fn stops(rt: HostRuntime) -> Result<(), Fail> {
+    let alloc = rt.alloc();
+    let mut out = sink(alloc)?;
+    let last = event(Kind::Line { line: 12 });
+    assert!(rt; set_line(&mut out, 0, 1, Spot::Line { line: 12 }).is_ok());
+    assert!(rt; set_line(&mut out, 15, 2, Spot::Receive).is_ok());
+    assert!(rt; broke_line(&mut out, 0, &last).is_ok());
+    assert!(rt; watcher_line(&mut out, 2, &last).is_ok());
+    assert!(rt; cleared_line(&mut out, 0).is_ok());
+    assert!(rt; at_line(&mut out, 600).is_ok());
+    assert!(rt; watch_line(&mut out, 0, b"faults 1").is_ok());
+    assert!(rt; detached_line(&mut out, 0).is_ok());
+    assert!(rt; notice_line(&mut out, Notice::IdleLetter).is_ok());
+    assert!(rt; notice_line(&mut out, Notice::Unknown).is_ok());
+    assert_eq!(rt;
+        out.bytes(),
+        b"break 0: process 1 line 12\nbreak 15: process 2 recv\nbreak 0 at 1.4 line 12\nwatcher 2 at 1.4 line 12\ncleared 0\nat 600 events\nwatch 0: faults 1\ndetached 0\nidle letter\n?\n".as_slice()
+    );
+    Ok(())
+}
+
+#[test]
+fn looks(rt: HostRuntime) -> Result<(), Fail> {
+    let alloc = rt.alloc();
+    let mut out = sink(alloc)?;
+    let faulted = Look::Faulted {
+        cause: FaultCause::Index,
+    };
+    assert!(rt; where_line(&mut out, 0, faulted, 9, 5, 6).is_ok());
+    assert!(rt; where_line(&mut out, 1, Look::Waiting { set: 3 }, 4, 0, 2).is_ok());
+    assert!(rt; frame_line(&mut out, 1, b"main", 3).is_ok());
+    assert!(rt; value_line(&mut out, b"x", None, u32::MAX, Ctype::Int).is_ok());
+    assert!(rt; value_line(&mut out, b"a", Some(2), u32::MAX, Ctype::Unsigned).is_ok());
+    assert!(rt; output_text(&mut out, b"hi").is_ok());
+    assert!(rt; output_text(&mut out, b"").is_ok());
+    assert_eq!(rt;
+        out.bytes(),
+        b"process 0 faulted Index line 9, 5 of 6 events\nprocess 1 waiting 0x00000003 line 4, 0 of 2 events\n#1 main line 3\nx = -1\na[2] = 4294967295\n2 bytes\nhi\n0 bytes\n".as_slice()
+    );
+    Ok(())
+}
+
+#[test]
+fn letters(rt: HostRuntime) -> Result<(), Fail> {
+    let alloc = rt.alloc();
+    let mut stamp = Stamp { parts: [0; 32] };
+    stamp.parts[1] = 4;
+    stamp.parts[2] = 7;
+    let mut words = [0; 8];
+    words[0] = 5;
+    words[1] = u32::MAX;
+    let waits = Letter {
+        id: letter(1, 0),
+        dest: ProcNo { no: 0 },
+        chan: 31,
+        len: 2,
+        words,
+        posted: 0,
+        stamp,
+    };
+    let mut out = sink(alloc)?;
+    assert!(rt; waiting_line(&mut out, 3, &waits).is_ok());
+    assert!(rt; clock_line(&mut out, 1, 2, &stamp).is_ok());
+    assert_eq!(rt;
+        out.bytes(),
+        b"1.0 on 31: 5 -1 @ 0 4 7\nclock 1: 0 4\n".as_slice()
+    );
     Ok(())
 }
 

@@ -71,6 +71,24 @@ pub fn turns_line<O: Sink>(out: &mut O, turns: u32, idle: u32) -> Result<(), Fai
     )
 }
 
+/// What a watcher says at the end of a replay.
+pub fn watched_line<O: Sink>(out: &mut O, k: u32, said: &[u8]) -> Result<(), Failed>
+    ensures { Prints (O.given out.old) (O.given out.new) (O.faults out.old) (O.faults out.new)
+        (texts.watched_line k said.now) result }
+{
+    let mut digits = Buffer::new();
+    put_pieces(
+        out,
+        &[
+            b"== watch ",
+            digits.format(k).as_bytes(),
+            b": ",
+            said,
+            b"\n",
+        ],
+    )
+}
+
 /// The line of a recording that lacked memory after so many turns.
 pub fn stopped_line<O: Sink>(out: &mut O, turns: u32) -> Result<(), Failed>
     ensures { Prints (O.given out.old) (O.given out.new) (O.faults out.old) (O.faults out.new)

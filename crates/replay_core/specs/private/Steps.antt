@@ -7,7 +7,7 @@ use Rattle.event_list.specs.Traces.{Trace}
 use Rattle.event_list.specs.Turns.{Idle, Stays}
 use Rattle.world.specs.Worlds.{Parts}
 use Rattle.replay_core.specs.Replaying.{Replaying, IsReplayOf, ReplaysAll, IsSameRun}
-use Rattle.replay_core.specs.Backwards.{ReplaysFront, with_world}
+use Rattle.replay_core.specs.Backwards.{GoesBack, with_world}
 use Rattle.replay_core.specs.Stepping.{turned_by}
 
 -- i turns in cyclic order were idle, of the processes from the first on
@@ -21,5 +21,5 @@ pub record HasIdled {P M O : Type 0} (stands_for : P → Standing) (origin_of : 
 -- the world has made the first i events again
 pub record IsMadeUpTo {P M O : Type 0} (stands_for : P → Standing) (origin_of : P → O) (r : Replaying P M)
     (from w : Parts P M) (i : ℕ) : Type 0 where
-  pub fronts : ReplaysFront stands_for r (with_world r w i) i
+  pub fronts : GoesBack stands_for r from (with_world r w i) i
   pub origins : map origin_of w.processes ≡ map origin_of from.processes

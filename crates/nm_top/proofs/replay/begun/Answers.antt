@@ -1,7 +1,7 @@
 use Rattle.std.proofs.Common.{subst}
 use Rattle.c_tree.specs.Play.{script_of}
 use Rattle.stack_code.specs.View.{seen_code}
-use Rattle.nm_top.specs.private.Begun.{AreBegun}
+use Rattle.c_process.specs.Begun.{AreBegun}
 use Rattle.nm_top.proofs.ReplayLaws.{replay_begins}
 use Rattle.nm_top.proofs.replay.begun.Goals as goal
 

@@ -1,7 +1,7 @@
 use Rattle.std.proofs.Common.{arith}
 use Rattle.report.specs.Texts.{progress_text}
 use Rattle.report.proofs.Pieces.{prints_nothing}
-use Rattle.report.proofs.Shown.{one_more, one_failed, blocks_to}
+use Rattle.report.proofs.Ranges.{one_more, one_failed, blocks_to}
 use Rattle.report.proofs.progress.put_each.Goals as goal
 
 pub loop-process-init : goal.loop-process-init

@@ -1,6 +1,6 @@
 use Rattle.std.proofs.Common.{length, arith, refl, ◌∙◌}
 use Rattle.report.proofs.Pieces.{prints_nothing, still_after, failed_after}
-use Rattle.report.proofs.Shown.{one_more, one_failed, blocks_to}
+use Rattle.report.proofs.Ranges.{one_more, one_failed, blocks_to}
 use Rattle.report.specs.Runs.{block_of}
 use Rattle.report.proofs.runs.put_blocks.Goals as goal
 

@@ -1,8 +1,8 @@
 use Rattle.std.proofs.Common.{◌+◌, sym, subst}
 use Rattle.stack_code.specs.View.{seen_code}
-use Rattle.nm_top.specs.private.Begun.{AreBegun}
-use Rattle.nm_top.proofs.StartLaws.{begun_more}
-use Rattle.nm_top.proofs.start.seats_of.Goals as goal
+use Rattle.c_process.specs.Begun.{AreBegun}
+use Rattle.c_process.proofs.Begun.{begun_more}
+use Rattle.c_process.proofs.seats.seats_of.Goals as goal
 
 pub loop-me-preserved : goal.loop-me-preserved
 loop-me-preserved c =

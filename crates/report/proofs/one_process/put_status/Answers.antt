@@ -1,6 +1,6 @@
 use Rattle.std.proofs.Common.{◌++◌, List, ℕ, codes, subst, ◌∙◌}
 use Rattle.report.specs.Printing.{Prints}
-use Rattle.report.proofs.one_process.put_look.Goals as goal
+use Rattle.report.proofs.one_process.put_status.Goals as goal
 
 pub returns-in-Waiting : goal.returns-in-Waiting
 returns-in-Waiting g c =
