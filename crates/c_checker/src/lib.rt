@@ -31,6 +31,3 @@ mod types;
 pub use fault::CheckFault;
 pub use functions::check;
 pub use laws::checked_law;
-
-#[cfg(test)]
-mod tests;

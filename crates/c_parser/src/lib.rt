@@ -19,6 +19,3 @@ pub use fault::ParseFault;
 pub use laws::tree_law;
 pub use parser::parse;
 pub use unit::MAX_HEIGHT;
-
-#[cfg(test)]
-mod tests;
