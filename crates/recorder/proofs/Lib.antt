@@ -2,6 +2,7 @@ pub mod Holding
 pub mod NoteLaws
 pub mod Contents
 pub mod LostLaws
+pub mod SeenLaws
 pub mod TurnLaws
 pub mod EndLaws
 pub mod StartLaws

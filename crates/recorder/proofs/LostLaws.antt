@@ -1,11 +1,13 @@
 -- Going through the waiting letters.
 use Rattle.std.proofs.Common.{◌≡◌, ℕ, ◌+◌, ◌*◌, ◌<◌, ◌≤◌, Bool, true, false, cond, leb, List, [], ◌∷◌, ◌++◌, length, Option, Some, None, refl, sym, ap, ◌∙◌, subst, inl, inr, arith, append_assoc, length-append}
-use Rattle.std.specs.Prelude.{Contains, ◌⊎◌, ◌↔◌, ◌^◌, IsTrue, find, nat_le, map}
-use Rattle.std.specs.List.{flat_map}
+use Rattle.std.specs.Prelude.{Contains, ◌⊎◌, ◌↔◌, ◌^◌, ◌&&◌, ◌||◌, not, IsTrue, find, nat_le, map}
+use Rattle.std.specs.List.{flat_map, list_any}
 use Rattle.std.proofs.lemmas.List.{append-nil}
 use Rattle.std.proofs.lemmas.List.Elements.{Contains-append_cases, Contains-append_right}
 use Rattle.std.proofs.lemmas.Option.{same_Some, none-some}
+use Rattle.std.proofs.lemmas.Bool.{le-ltb, lt-ltb}
 use Rattle.std.proofs.lemmas.Bool.Decides.{nat_tests}
+use Rattle.std.proofs.lemmas.List.Folds.{list_any-append}
 use Rattle.nm_base.specs.declared.letter.LetterId.{LetterId}
 use Rattle.nm_base.specs.declared.letter.Letter.{Letter}
 use Rattle.nm_base.specs.declared.letter.ProcNo.{ProcNo}
@@ -32,7 +34,7 @@ use Rattle.race_tracer.specs.Tracing.{Tables, IsTracerOf, IsLeft}
 use Rattle.race_tracer.proofs.TracerFacts.{stamp_from}
 use Rattle.world.specs.Worlds.{Parts, IsWorldOf}
 use Rattle.world.proofs.Steps.{first_is, letters_le}
-use Rattle.world.proofs.Places.{map_length}
+use Rattle.world.proofs.Places.{any_same, map_length}
 use Rattle.trace_file.specs.declared.writer.TraceWriter.{TraceWriter}
 use Rattle.trace_file.specs.Content.{Content, with_lost}
 use Rattle.trace_file.specs.Bytes.{front, lost_entry}
@@ -41,6 +43,7 @@ use Rattle.trace_file.proofs.Passing.{lost_front}
 use Rattle.recorder.specs.Recording.{Form}
 use Rattle.recorder.specs.private.Stages.{Place, IsNoted, IsWritten, IsCutInLost, AreNotes, AreLost, content_in, HoldsFront, IsHeld}
 use Rattle.recorder.specs.private.Lost.{IsFrom, AreLogged, IsGoing}
+use Rattle.recorder.specs.private.Seen.{has_place, Holds}
 use Rattle.recorder.proofs.Holding.{held_more, held_part}
 use Rattle.recorder.proofs.Contents.{front_lost}
 
@@ -68,38 +71,38 @@ find_past from (l ∷ ls) rest h =
     ∙ find_past from ls rest (λ k c. h k (cons_there l ls k c))
 
 -- what is found first is the first of the rest
-pub found_first : (letters : List Letter) (from : ℕ) (rest : List Letter) (l : Letter) → IsFrom letters from rest → find (is_from from) letters ≡ Some l
+pub found_first : (letters : List Letter) (from : ℕ) (gone rest : List Letter) (l : Letter) → IsFrom letters from gone rest → find (is_from from) letters ≡ Some l
     → (more : List Letter) × (rest ≡ l ∷ more)
-found_first letters from rest l h e = by rest h.later (sym (ap (find (is_from from)) h.split ∙ find_past from h.before rest h.earlier) ∙ e)
+found_first letters from gone rest l h e = by rest h.later (sym (ap (find (is_from from)) h.split ∙ find_past from gone rest h.earlier) ∙ e)
   where
     by : (rest : List Letter) → Rises from rest → find (is_from from) rest ≡ Some l → (more : List Letter) × (rest ≡ l ∷ more)
     by [] r e = absurd (none-some l e)
     by (k ∷ ks) r e = (ks, ap (λ (j : Letter). j ∷ ks) (same_Some k l (sym (find_here from k ks (test_is from k.posted r.0)) ∙ e)))
 
 -- and where nothing is found, none is left
-pub found_none : (letters : List Letter) (from : ℕ) (rest : List Letter) → IsFrom letters from rest → find (is_from from) letters ≡ None → rest ≡ []
-found_none letters from rest h e = by rest h.later (sym (ap (find (is_from from)) h.split ∙ find_past from h.before rest h.earlier) ∙ e)
+pub found_none : (letters : List Letter) (from : ℕ) (gone rest : List Letter) → IsFrom letters from gone rest → find (is_from from) letters ≡ None → rest ≡ []
+found_none letters from gone rest h e = by rest h.later (sym (ap (find (is_from from)) h.split ∙ find_past from gone rest h.earlier) ∙ e)
   where
     by : (rest : List Letter) → Rises from rest → find (is_from from) rest ≡ None → rest ≡ []
     by [] r e = refl
     by (k ∷ ks) r e = absurd (none-some k (sym e ∙ find_here from k ks (test_is from k.posted r.0)))
 
 -- the same where the letters are those of a mail
-pub found : (letters mine : List Letter) (from : ℕ) (rest : List Letter) (l : Letter) → mine ≡ letters → IsFrom letters from rest → Some l ≡ find (is_from from) mine
+pub found : (letters mine : List Letter) (from : ℕ) (gone rest : List Letter) (l : Letter) → mine ≡ letters → IsFrom letters from gone rest → Some l ≡ find (is_from from) mine
     → (more : List Letter) × (rest ≡ l ∷ more)
-found letters mine from rest l same h e = found_first letters from rest l h (ap (find (is_from from)) (sym same) ∙ sym e)
+found letters mine from gone rest l same h e = found_first letters from gone rest l h (ap (find (is_from from)) (sym same) ∙ sym e)
 
-pub found_nothing : (letters mine : List Letter) (from : ℕ) (rest : List Letter) → mine ≡ letters → IsFrom letters from rest → None ≡ find (is_from from) mine → rest ≡ []
-found_nothing letters mine from rest same h e = found_none letters from rest h (ap (find (is_from from)) (sym same) ∙ sym e)
+pub found_nothing : (letters mine : List Letter) (from : ℕ) (gone rest : List Letter) → mine ≡ letters → IsFrom letters from gone rest → None ≡ find (is_from from) mine → rest ≡ []
+found_nothing letters mine from gone rest same h e = found_none letters from gone rest h (ap (find (is_from from)) (sym same) ∙ sym e)
 
-pub all_from : (letters : List Letter) → Rises 0 letters → IsFrom letters 0 letters
-all_from letters r = record { before = []; split = refl; earlier = λ l c. absurd (empty l c); later = r }
+pub all_from : (letters : List Letter) → Rises 0 letters → IsFrom letters 0 [] letters
+all_from letters r = record { split = refl; earlier = λ l c. absurd (empty l c); later = r }
 
-pub next_from : (letters : List Letter) (from : ℕ) (l : Letter) (more : List Letter) → IsFrom letters from (l ∷ more) → IsFrom letters (l.posted + 1) more
-next_from letters from l more h = record {
-  before = h.before ++ l ∷ [];
-  split = h.split ∙ sym (append_assoc h.before (l ∷ []) more);
-  earlier = λ k c. elim (Contains-append_cases h.before (l ∷ []) k c) [
+pub next_from : (letters : List Letter) (from : ℕ) (gone : List Letter) (l : Letter) (more : List Letter) → IsFrom letters from gone (l ∷ more)
+    → IsFrom letters (l.posted + 1) (gone ++ l ∷ []) more
+next_from letters from gone l more h = record {
+  split = h.split ∙ sym (append_assoc gone (l ∷ []) more);
+  earlier = λ k c. elim (Contains-append_cases gone (l ∷ []) k c) [
     | inl o ↦ omega (arith, h.earlier k o, h.later.0)
     | inr o ↦ elim (cons_cases l [] k o) [
       | inl e ↦ subst (λ (j : Letter). j.posted < l.posted + 1) e (omega arith)
@@ -109,24 +112,51 @@ next_from letters from l more h = record {
   later = h.later.1.1;
 }
 
-pub from_fits : (letters : List Letter) (from : ℕ) (l : Letter) (more : List Letter) → IsFrom letters from (l ∷ more) → (from ≤ l.posted) × (l.posted + 1 < 2 ^ 32)
-from_fits letters from l more h = (h.later.0, h.later.1.0)
+pub from_fits : (letters : List Letter) (from : ℕ) (gone : List Letter) (l : Letter) (more : List Letter) → IsFrom letters from gone (l ∷ more) → (from ≤ l.posted) × (l.posted + 1 < 2 ^ 32)
+from_fits letters from gone l more h = (h.later.0, h.later.1.0)
 
-pub from_in : (letters : List Letter) (from : ℕ) (l : Letter) (more : List Letter) → IsFrom letters from (l ∷ more) → Contains letters l
-from_in letters from l more h = subst (λ (ls : List Letter). Contains ls l) (sym h.split) (Contains-append_right h.before (l ∷ more) l (cons_here l more))
+pub from_in : (letters : List Letter) (from : ℕ) (gone : List Letter) (l : Letter) (more : List Letter) → IsFrom letters from gone (l ∷ more) → Contains letters l
+from_in letters from gone l more h = subst (λ (ls : List Letter). Contains ls l) (sym h.split) (Contains-append_right gone (l ∷ more) l (cons_here l more))
+
+-- letters that were posted at its number or later don't precede the letter
+none_later : (low : ℕ) (ls : List Letter) (l : Letter) → Rises low ls → l.posted ≤ low → list_any (λ k. mail.precedes k l) ls ≡ false
+none_later low [] l r h = refl
+none_later low (k ∷ ks) l r h =
+    ap (λ b. (b && mail.are_rivals k l) || list_any (λ k. mail.precedes k l) ks) (le-ltb k.posted l.posted (omega (arith, h, r.0)))
+    ∙ none_later (k.posted + 1) ks l r.1.1 (omega (arith, h, r.0))
+
+-- the next letter is first where none of those that are gone is its rival
+pub first_next : (letters : List Letter) (from : ℕ) (gone : List Letter) (l : Letter) (more : List Letter) → IsFrom letters from gone (l ∷ more)
+    → not (list_any (λ k. mail.are_rivals k l) gone) ≡ mail.is_first letters l
+first_next letters from gone l more h = ap not (sym (
+    ap (list_any (λ k. mail.precedes k l)) h.split
+    ∙ list_any-append (λ k. mail.precedes k l) gone (l ∷ more)
+    ∙ ap (λ b. list_any (λ k. mail.precedes k l) gone || b) none
+    ∙ or_right_none (list_any (λ k. mail.precedes k l) gone)
+    ∙ any_same (λ k. mail.precedes k l) (λ k. mail.are_rivals k l) gone (λ k c.
+    ap (λ b. b && mail.are_rivals k l) (lt-ltb k.posted l.posted (omega (arith, h.earlier k c, h.later.0))))))
+  where
+    or_right_none : (b : Bool) → (b || false) ≡ b
+    or_right_none true = refl
+    or_right_none false = refl
+
+    none : list_any (λ k. mail.precedes k l) (l ∷ more) ≡ false
+    none =
+        ap (λ b. (b && mail.are_rivals l l) || list_any (λ k. mail.precedes k l) more) (le-ltb l.posted l.posted (omega arith))
+        ∙ none_later (l.posted + 1) more l h.later.1.1 (omega arith)
 
 -- the letter that is looked at next
-pub record Looked (letters : List Letter) (from : ℕ) (rest : List Letter) (l : Letter) : Type 0 where
+pub record Looked (letters : List Letter) (from : ℕ) (gone rest : List Letter) (l : Letter) : Type 0 where
   pub more : List Letter
   pub is : rest ≡ l ∷ more
-  pub place : IsFrom letters from (l ∷ more)
+  pub place : IsFrom letters from gone (l ∷ more)
   pub in_it : Contains letters l
 
-pub looked : (letters mine : List Letter) (from : ℕ) (rest : List Letter) (l : Letter) → mine ≡ letters → IsFrom letters from rest → Some l ≡ find (is_from from) mine → Looked letters from rest l
-looked letters mine from rest l same h e =
-    let z = found letters mine from rest l same h e in
-    let place = subst (IsFrom letters from) z.1 h in
-    record { more = z.0; is = z.1; place = place; in_it = from_in letters from l z.0 place }
+pub looked : (letters mine : List Letter) (from : ℕ) (gone rest : List Letter) (l : Letter) → mine ≡ letters → IsFrom letters from gone rest → Some l ≡ find (is_from from) mine → Looked letters from gone rest l
+looked letters mine from gone rest l same h e =
+    let z = found letters mine from gone rest l same h e in
+    let place = subst (IsFrom letters from gone) z.1 h in
+    record { more = z.0; is = z.1; place = place; in_it = from_in letters from gone l z.0 place }
 
 -- ---- which of them are logged
 
@@ -167,14 +197,18 @@ module _ {P M : Type 0} (stands_for : P → Standing) (w : Parts P M) (s : ℕ �
   named_logged l c k =
       subst (IsLogged w.mask E) (letter_same sound k.0 (message_of l) k.2.1.could.sent (in_waiting E (message_of l) (waits_there l c)).0 k.1) k.2
 
-  -- what a tracer says of a letter that is left
-  pub left_logged : (name_of : P → ProcNo) (t : Tables) → t.mask ≡ w.mask → length w.processes ≤ MAX_PROCESSES → (mine : List Letter) → mine ≡ w.letters → (l : Letter) → Contains w.letters l → (first b : Bool)
-      → first ≡ mail.is_first mine l → IsTracerOf t E
-      → ((E : List Event) → IsTracerOf t E → IsLeft t.mask E l → first ≡ is_first E (message_of l) → IsTrue b ↔ IsLogged t.mask E (message_of l))
+  -- what is said of a letter that is left
+  pub left_logged : (name_of : P → ProcNo) (t : Tables) → t.mask ≡ w.mask → length w.processes ≤ MAX_PROCESSES
+      → (from : ℕ) (gone : List Letter) (l : Letter) (more : List Letter) → IsFrom w.letters from gone (l ∷ more)
+      → (sets : List ℕ) → Holds sets gone → (first b : Bool)
+      → (has_place l ≡ true → (gone : List Letter) → Holds sets gone → first ≡ not (list_any (λ k. mail.are_rivals k l) gone)) → IsTracerOf t E
+      → ((E : List Event) → IsTracerOf t E → IsLeft t.mask E l → (has_place l ≡ true → first ≡ is_first E (message_of l)) → IsTrue b ↔ IsLogged t.mask E (message_of l))
       → IsTrue b ↔ IsLogged w.mask E (message_of l)
-  left_logged name_of t order few mine same l c first b is tracer says =
+  left_logged name_of t order few from gone l more place sets holds first b seen tracer says =
+      let c = from_in w.letters from gone l more place in
       subst (λ m. IsTrue b ↔ IsLogged m E (message_of l)) order
-      (says E tracer (subst (λ m. IsLeft m E l) (sym order) (left_letter few l c)) (is ∙ ap (λ (ls : List Letter). mail.is_first ls l) same ∙ first_is stands_for name_of w s E h l c))
+      (says E tracer (subst (λ m. IsLeft m E l) (sym order) (left_letter few l c))
+      (λ has. seen has gone holds ∙ first_next w.letters from gone l more place ∙ first_is stands_for name_of w s E h l c))
 
   module _ (f : Form) (at : Place) (order : w.mask ≡ f.mask) where
     -- before the first letter

@@ -1,3 +1,4 @@
 pub mod Receiving
 pub mod Stages
 pub mod Lost
+pub mod Seen

@@ -1,19 +1,25 @@
 //! The end of a recording: the letters that were never received, and the counts.
 
-ghost use Rattle.std.specs.Prelude.{◌≡◌, ◌+◌, ◌*◌, ◌<◌, ◌≤◌, ℕ, List, length, Some, IsSome, IsTrue, IfOk, OnOk, OnErr, IsOk, is_err, slice_index, false};
+ghost use Rattle.std.specs.Prelude.{◌≡◌, ◌+◌, ◌*◌, ◌<◌, ◌≤◌, ℕ, List, length, Some, IsSome, ◌↔◌, IsTrue, IfOk, OnOk, OnErr, IsOk, is_err, slice_index, true, false};
 ghost use Rattle.nm_base.specs.Scripts.{Script};
+ghost use Rattle.nm_base.specs.Message.{message_of};
+ghost use Rattle.nm_base.specs.declared.letter.Letter.{Letter};
 ghost use Rattle.nm_base.specs.declared.limits.TheConstants.{MAX_TRACE_BYTES, MAX_EVENTS, MAX_PROCESSES};
 ghost use Rattle.nm_outside.specs.Causes.{BelongsTo};
 ghost use Rattle.event_list.specs.declared.Event.{Event};
 ghost use Rattle.event_list.specs.Events.{count};
-ghost use Rattle.race_tracer.specs.Tracing.{IsTracerOf};
+ghost use Rattle.event_list.specs.Races.{IsLogged};
+ghost use Rattle.event_list.specs.Turns.{is_first};
+ghost use Rattle.race_tracer.specs.Tracing.{IsTracerOf, IsLeft};
 ghost use Rattle.world.specs.Worlds.{IsWorldOf};
 ghost use Rattle.trace_file.specs.Writing.{processes, written};
 ghost use Rattle.recorder.specs.Recording.{Form, IsRecorded, IsFrontOf};
+ghost use Rattle.recorder.specs.private.Seen.{has_place};
 ghost use Rattle.recorder.specs.private.Stages.{Place, IsNoted, IsWritten, IsCutInLost};
 
+use crate::seen::{SeenChannels, has_place};
 use mailboxes::Mail;
-use nm_base::ProcNo;
+use nm_base::{Letter, ProcNo};
 use nm_outside::{Cabinet, Failed};
 use processes::Proc;
 use race_tracer::Tracer;
@@ -25,6 +31,19 @@ use world::World;
 pub struct Ending {
     pub lost: u32,
     pub bytes: u32,
+}
+
+/// Whether a letter that waits at the end of the run is logged. `first` says that no earlier letter of its
+/// sender, to the same process on the same channel, waits; a letter to no process is never logged.
+fn is_lost(tracer: &Tracer, letter: &Letter, first: bool) -> bool
+    ensures { (E : List Event) → IsTracerOf tracer.now E → IsLeft tracer.now.mask E letter.now
+        → (has_place letter.now ≡ true → first ≡ is_first E (message_of letter.now))
+        → IsTrue result ↔ IsLogged tracer.now.mask E (message_of letter.now) }
+{
+    if !has_place(letter) {
+        return false;
+    }
+    tracer.unreceived(letter, first)
 }
 
 /// Goes through the letters that wait, and writes those that are logged. Gives their number.
@@ -66,11 +85,12 @@ fn write_lost<P: Proc, M: Mail, C: Cabinet>(
     ensures same_absents { C.absents files.new ≡ C.absents files.old }
 {
     let mail = world.mail();
+    let mut seen = SeenChannels::new();
     let mut lost = 0;
     let mut from = 0;
     while let Some(letter) = mail.next_from(from) {
-        let first = mail.is_first(letter.id);
-        if tracer.unreceived(letter, first) {
+        let first = seen.see(letter);
+        if is_lost(tracer, letter, first) {
             writer.lost(files, letter.id)?;
             lost += 1;
         }

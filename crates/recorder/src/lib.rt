@@ -6,6 +6,7 @@ mod fault;
 pub mod laws;
 mod receive;
 mod recording;
+mod seen;
 mod turns;
 
 pub use fault::RecordFault;

@@ -13,11 +13,10 @@ use Rattle.trace_file.specs.Writing.{Writes}
 use Rattle.recorder.specs.Recording.{Form}
 use Rattle.recorder.specs.private.Stages.{Place, IsHeld, AreNotes, AreLost, content_in}
 
--- the letters that were posted at this number or later are those from a place on
-pub record IsFrom (letters : List Letter) (from : ℕ) (rest : List Letter) : Type 0 where
-  pub before : List Letter
-  pub split : letters ≡ before ++ rest
-  pub earlier : (l : Letter) → Contains before l → l.posted < from
+-- of the letters these are gone, since they were posted before this number, and the rest is left
+pub record IsFrom (letters : List Letter) (from : ℕ) (gone rest : List Letter) : Type 0 where
+  pub split : letters ≡ gone ++ rest
+  pub earlier : (l : Letter) → Contains gone l → l.posted < from
   pub later : Rises from rest
 
 -- the names of those that are logged

@@ -7,6 +7,7 @@ use Rattle.trace_file.specs.Writing.{processes, written}
 use Rattle.recorder.specs.Recording.{Form}
 use Rattle.recorder.specs.private.Stages.{Place, IsNoted}
 use Rattle.recorder.specs.private.Lost.{IsFrom, IsGoing}
+use Rattle.recorder.specs.private.Seen.{Holds}
 use Rattle.recorder.proofs.ending.write_lost.Given as goal
 
 abbrev pub decreases-loop-letter : goal.decreases-loop-letter
@@ -14,8 +15,10 @@ decreases-loop-letter g l = 4294967296 - l.from
 
 abbrev pub invariant-loop-letter : goal.invariant-loop-letter
 invariant-loop-letter g l = record {
+  gone : List Letter;
   rest : List Letter;
-  place : IsFrom l.world.letters l.from rest;
+  place : IsFrom l.world.letters l.from gone rest;
+  seen : Holds l.seen.of gone;
   going : (f : Form) (at : Place) (notes : ℕ) (s : ℕ → Script) (E : List Event) → l.world.mask ≡ f.mask → IsWorldOf g.P.Proc.stands_for l.world s E
       → IsNoted f at l.tracer l.fn.writer (g.C.Cabinet.files l.fn.files) (g.C.Cabinet.open_name l.fn.files) notes E
       → IsGoing f at l.writer (g.C.Cabinet.files l.files) (g.C.Cabinet.open_name l.files) notes l.lost E rest;
