@@ -8,7 +8,7 @@ ghost use Rattle.c_process.specs.Standing.{IsCodeOf};
 use crate::program::program_of;
 use crate::start::compiled;
 use c_process::CProc;
-use nm_base::{FaultCause, Kind, MAX_EVENTS, MAX_PROGRAM_BYTES, ProcNo, WantOfMemory};
+use nm_base::{Kind, MAX_EVENTS, MAX_PROGRAM_BYTES, ProcNo, WantOfMemory};
 use processes::{Look, Proc, Seat, Stepped};
 use stack_code::Code;
 use std::alloc::Global;
@@ -91,71 +91,12 @@ fn after(alloc: Global, text: &str, turns: u32) -> Result<Shown, Fail> {
     Ok(shown_by(&seat))
 }
 
-const fn faulted(cause: FaultCause) -> Look {
-    Look::Faulted { cause }
-}
-
-const fn ended(value: i32) -> Look {
-    Look::Ended { value }
-}
-
-/// A variable is set, and an expression of it is returned: four events, the last one on line 5.
+/// A process that has ended keeps the line of its last event.
 #[test]
-fn operators_give_values_or_faults(rt: HostRuntime) -> Result<(), Fail> {
-    let table = [
-        ("2147483647", "x + 1", faulted(FaultCause::Overflow)),
-        ("-2147483647 - 1", "x / -1", faulted(FaultCause::Overflow)),
-        ("31", "1 << x", ended(-2147483648)),
-        ("32", "1 << x", faulted(FaultCause::Shift)),
-        ("0", "5 % x", faulted(FaultCause::DivideByZero)),
-        ("-7", "x / 2", ended(-3)),
-        ("-7", "x % 2", ended(-1)),
-        ("-7", "x >> 1", ended(-4)),
-        ("4294967295u + 1u", "x", ended(0)),
-        ("0", "-1 < 0u", ended(0)),
-        ("0", "0x80000000 > 0", ended(1)),
-        ("0", "receive(0u)", faulted(FaultCause::EmptySet)),
-        ("0", "word(0)", faulted(FaultCause::NoLetter)),
-        ("0", "send(1, 0, 5)", faulted(FaultCause::Address)),
-    ];
-    let alloc = rt.alloc();
-    for (set, returned, look) in table {
-        let text = format!(in alloc;
-            "int main(void)\n{{\nint x;\nx = {set};\nreturn {returned};\n}}\n"
-        )?;
-        assert_eq!(&rt; after(alloc, &text, 9)?, (look, 4, 5, 0), "{returned}");
-    }
-    Ok(())
-}
-
-#[test]
-fn limits_are_faults(rt: HostRuntime) -> Result<(), Fail> {
-    let table = [
-        (
-            "int f(void) { return f(); } int main(void) { return f(); }",
-            600,
-            (faulted(FaultCause::DepthFull), 513, 1, 0),
-        ),
-        (
-            "int a[65536]; int main(void) { int x; return 0; }",
-            1,
-            (faulted(FaultCause::DataFull), 1, 1, 0),
-        ),
-        (
-            "int a[3]; int main(void) { return a[3]; }",
-            3,
-            (faulted(FaultCause::Index), 3, 1, 0),
-        ),
-        (
-            "int main(void) { for (;;) printf(\"0123456789abcdef\"); }",
-            200_000,
-            (faulted(FaultCause::OutputFull), 196_612, 1, 1_048_576),
-        ),
-        (FOR_EVER, 1000, (Look::Able, 1000, 1, 0)),
-    ];
-    for (text, turns, wanted) in table {
-        assert_eq!(&rt; after(rt.alloc(), text, turns)?, wanted, "{text}");
-    }
+fn an_ended_process_keeps_its_line(rt: HostRuntime) -> Result<(), Fail> {
+    let text = "int main(void)\n{\nint x;\nx = 31;\nreturn 1 << x;\n}\n";
+    let ended = Look::Ended { value: -2147483648 };
+    assert_eq!(&rt; after(rt.alloc(), text, 9)?, (ended, 4, 5, 0));
     Ok(())
 }
 

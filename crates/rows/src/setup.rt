@@ -1,0 +1,65 @@
+//! What a row begins with.
+
+use crate::fault::Fault;
+use crate::line::Fail;
+use nm_outside::{CabinetFail, SinkFail};
+use std::alloc::Global;
+
+/// The room of a sink of which the table says nothing: for the longest output of a process.
+const SINK_ROOM: u32 = 1_100_000;
+
+/// The files before the first call, how much room there is, and what fails.
+#[derive(Drop)]
+pub struct Setup {
+    /// No two of one name.
+    pub files: Vec<(String, Vec<u8>)>,
+    /// For a file that a call writes.
+    pub room: u32,
+    /// For what a call prints.
+    pub sink_room: u32,
+    pub cabinet_fails: Vec<CabinetFail>,
+    pub sink_fails: Vec<SinkFail>,
+}
+
+impl Setup {
+    /// No file and no room for one, and nothing fails.
+    pub fn new(alloc: Global) -> Setup {
+        Setup {
+            files: Vec::new(alloc),
+            room: 0,
+            sink_room: SINK_ROOM,
+            cabinet_fails: Vec::new(alloc),
+            sink_fails: Vec::new(alloc),
+        }
+    }
+
+    pub fn copy(&self, alloc: Global) -> Result<Setup, Fault> {
+        let mut files = Vec::new(alloc);
+        for file in self.files.as_slice() {
+            let name = String::from_str(alloc, file.0.as_str())?;
+            files.push((name, Vec::from_slice(alloc, &file.1)?))?;
+        }
+        Ok(Setup {
+            files,
+            room: self.room,
+            sink_room: self.sink_room,
+            cabinet_fails: Vec::from_slice(alloc, &self.cabinet_fails)?,
+            sink_fails: Vec::from_slice(alloc, &self.sink_fails)?,
+        })
+    }
+
+    /// Puts the file to the others, in the place of one of its name.
+    pub fn hold(&mut self, name: String, bytes: Vec<u8>) -> Result<(), Fault> {
+        self.files.retain(|file| file.0.as_str() != name.as_str());
+        self.files.push((name, bytes))?;
+        Ok(())
+    }
+
+    pub fn fail(&mut self, fail: Fail) -> Result<(), Fault> {
+        match fail {
+            Fail::Cabinet(fail) => self.cabinet_fails.push(fail)?,
+            Fail::Sink(fail) => self.sink_fails.push(fail)?,
+        }
+        Ok(())
+    }
+}
