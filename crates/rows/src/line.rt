@@ -30,7 +30,7 @@ pub enum Fail {
     Sink(SinkFail),
 }
 
-/// A line, the first piece of what it begins with it.
+/// A line. One that begins bytes may have their first piece with it.
 #[derive(Clone, Copy)]
 pub enum Line<'a> {
     /// A blank line, or a comment.
@@ -176,7 +176,7 @@ fn piece_of<'a>(word: &'a str, rest: &'a str) -> Result<Piece<'a>, Fault> {
     }
 }
 
-// Which call fails, the how manieth of its kind, and how many bytes it keeps.
+// Which call fails, by its number among those of its kind, and how many bytes it keeps.
 fn fail_of(text: &str) -> Result<Fail, Fault> {
     let (kind, rest) = word_of(text);
     let (nth, kept) = word_of(rest);
