@@ -1,8 +1,9 @@
 //! The lines of events.
 
-ghost use Rattle.std.specs.Prelude.{◌≡◌};
+ghost use Rattle.std.specs.Prelude.{◌≡◌, codes};
 ghost use Rattle.report.specs.Printing.{Prints};
 ghost use Rattle.report.specs.Replies as replies;
+ghost use Rattle.report.specs.Texts.{number_line};
 
 use crate::one_process::cause_name;
 use crate::put::{hex_digits, put_number, put_pieces};
@@ -121,11 +122,20 @@ pub fn broke_line<O: Sink>(out: &mut O, k: u32, e: &Event) -> Result<(), Failed>
     event_line(out, e)
 }
 
+// The number of a watcher that stops.
+fn put_watcher<O: Sink>(out: &mut O, k: usize) -> Result<(), Failed>
+    ensures { Prints (O.given out.old) (O.given out.new) (O.faults out.old) (O.faults out.new)
+        (number_line (codes "watcher ") k (codes " at ")) result }
+{
+    let mut digits = Buffer::new();
+    put_pieces(out, &[b"watcher ", digits.format(k).as_bytes(), b" at "])
+}
+
 /// The line of a run that stopped because this watcher stops after the event.
-pub fn watcher_line<O: Sink>(out: &mut O, k: u32, e: &Event) -> Result<(), Failed>
+pub fn watcher_line<O: Sink>(out: &mut O, k: usize, e: &Event) -> Result<(), Failed>
     ensures { Prints (O.given out.old) (O.given out.new) (O.faults out.old) (O.faults out.new)
         (replies.watcher_line k e.now) result }
 {
-    put_number(out, b"watcher ", k, b" at ")?;
+    put_watcher(out, k)?;
     event_line(out, e)
 }

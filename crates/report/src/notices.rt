@@ -47,7 +47,7 @@ pub fn notice_line<O: Sink>(out: &mut O, notice: Notice) -> Result<(), Failed>
 }
 
 /// What a watcher says, in a debugger.
-pub fn watch_line<O: Sink>(out: &mut O, k: u32, said: &[u8]) -> Result<(), Failed>
+pub fn watch_line<O: Sink>(out: &mut O, k: usize, said: &[u8]) -> Result<(), Failed>
     ensures { Prints (O.given out.old) (O.given out.new) (O.faults out.old) (O.faults out.new)
         (replies.watch_line k said.now) result }
 {

@@ -72,7 +72,7 @@ pub fn turns_line<O: Sink>(out: &mut O, turns: u32, idle: u32) -> Result<(), Fai
 }
 
 /// What a watcher says at the end of a replay.
-pub fn watched_line<O: Sink>(out: &mut O, k: u32, said: &[u8]) -> Result<(), Failed>
+pub fn watched_line<O: Sink>(out: &mut O, k: usize, said: &[u8]) -> Result<(), Failed>
     ensures { Prints (O.given out.old) (O.given out.new) (O.faults out.old) (O.faults out.new)
         (texts.watched_line k said.now) result }
 {
