@@ -1,0 +1,7 @@
+pub mod Lines
+pub mod Breaks
+pub mod Latest
+pub mod Looks
+pub mod Sessions
+pub mod Sittings
+pub mod private
