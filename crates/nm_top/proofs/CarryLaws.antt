@@ -19,6 +19,8 @@ use Rattle.nm_top.specs.Lines.{IsLineOf, MayStopAt, PrintsLine}
 use Rattle.nm_top.specs.Replies.{Reply, reply, Says, Answers, CutShort, Breaks, KeepsOthers}
 use Rattle.nm_top.specs.Demands.{Demand, Fetch, fetch_of, IsFetched}
 use Rattle.nm_top.specs.Answers.{CommandAnswer, Demanding, IsDone, Answer, Fetches, IsBroken, IsEnough, MayBreak, Suffices, demands_of, written_of}
+use Rattle.nm_top.specs.Watches.{Given}
+use Rattle.nm_top.specs.Heard.{AreTold, Hears}
 use Rattle.nm_top.specs.private.Works.{
   Work,
   Whole,
@@ -60,14 +62,14 @@ stop_works allowed broken held (Refused r) h short = (held, refl, h)
 stop_works allowed broken held Memory h short = (held, refl, short)
 
 -- where nothing was carried out, want of memory is an answer
-pub nothing_short : (command : Command) (held : Files) → CommandAnswer command held (reply statuses.WantOfMemory [] held)
-nothing_short command held = inr ([], held, inl (refl, refl), refl)
+pub nothing_short : (x : Given) (command : Command) (held : Files) → CommandAnswer x command held (reply statuses.WantOfMemory [] held)
+nothing_short x command held = inr ([], held, inl (refl, refl), refl)
 
 stop_is_work : (command : Command) (stop : Stop) → StopBlames (IsFetched (demands_of command)) stop → MayStopAt (Some command) [] → IsWorkOf command (work_of stop)
 stop_is_work command (Refused r) blamed short = blamed
 stop_is_work command Memory blamed short = short
 
-stop_status_is : (stop : Stop) → work_status (work_of stop) ≡ stop_status stop
+pub stop_status_is : (stop : Stop) → work_status (work_of stop) ≡ stop_status stop
 stop_status_is (Refused r) = refl
 stop_status_is Memory = refl
 
@@ -95,14 +97,14 @@ no_writes enough before after work e same = record {
     by (Some held) = λ room k f. e
 
 -- what stopped a command was told
-pub stopped : {X : Type 0} (command : Command) (before after : Outside) (status : Status) (stop : Stop)
-    → IfSome before.files (λ held. Stops (CommandAnswer command held) held stop)
+pub stopped : {X : Type 0} (x : Given) (command : Command) (before after : Outside) (status : Status) (stop : Stop)
+    → IfSome before.files (λ held. Stops (CommandAnswer x command held) held stop)
     → Counts {X = X} (IsFetched (demands_of command)) before.absents after.absents before.reads after.reads (Err stop)
     → MayStopAt (Some command) [] → after.files ≡ before.files → after.writes ≡ before.writes
-    → Tells (work_of stop) before.given after.given before.faults after.faults status → Carries command before after status
-stopped command before after status stop stops counts short same writes told = record {
+    → Tells (work_of stop) before.given after.given before.faults after.faults status → Carries x command before after status
+stopped x command before after status stop stops counts short same writes told = record {
   work = work_of stop;
-  works = subst (λ (o : Option Files). IfSome before.files (λ held. Works (CommandAnswer command held) (IsBroken command held) o (work_of stop))) (sym same) (by before.files stops);
+  works = subst (λ (o : Option Files). IfSome before.files (λ held. Works (CommandAnswer x command held) (IsBroken command held) o (work_of stop))) (sym same) (by before.files stops);
   keeps = kept (written_of command);
   is_work = stop_is_work command stop counts.blames short;
   absent = subst (λ s. BelongsTo (is_absence s) before.absents after.absents) (sym (stop_status_is stop)) counts.absent;
@@ -111,24 +113,24 @@ stopped command before after status stop stops counts short same writes told = r
   tells = told;
 }
   where
-    by : (o : Option Files) → IfSome o (λ held. Stops (CommandAnswer command held) held stop)
-        → IfSome o (λ held. Works (CommandAnswer command held) (IsBroken command held) o (work_of stop))
+    by : (o : Option Files) → IfSome o (λ held. Stops (CommandAnswer x command held) held stop)
+        → IfSome o (λ held. Works (CommandAnswer x command held) (IsBroken command held) o (work_of stop))
     by None h = tt
-    by (Some held) h = stop_works (CommandAnswer command held) (IsBroken command held) held stop h (nothing_short command held)
+    by (Some held) h = stop_works (CommandAnswer x command held) (IsBroken command held) held stop h (nothing_short x command held)
 
     kept : (o : Option (List ℕ)) → KeepsOthers o before.files after.files
     kept None = same
     kept (Some name) = inl same
 
 -- what stopped a command at its demands stopped it
-pub command_stops : (command : Command) (F : Option Files) (stop : Stop) → IfSome F (λ held. Stops (Demanding (demands_of command) Nothing held) held stop)
-    → IfSome F (λ held. Stops (CommandAnswer command held) held stop)
-command_stops command F stop h = IfSome_then F h (λ held k. by held stop k)
+pub command_stops : (x : Given) (command : Command) (F : Option Files) (stop : Stop) → IfSome F (λ held. Stops (Demanding (demands_of command) Nothing held) held stop)
+    → IfSome F (λ held. Stops (CommandAnswer x command held) held stop)
+command_stops x command F stop h = IfSome_then F h (λ held k. by held stop k)
   where
-    by : (held : Files) (stop : Stop) → Stops (Demanding (demands_of command) Nothing held) held stop → Stops (CommandAnswer command held) held stop
+    by : (held : Files) (stop : Stop) → Stops (Demanding (demands_of command) Nothing held) held stop → Stops (CommandAnswer x command held) held stop
     by held (Refused r) k =
-        inl (subst (λ (ds : List Demand). Demanding ds (IsDone command held) held (reply (status_of r) (refusal_line r) held)) (append-nil (demands_of command))
-        (stops_on (demands_of command) [] (IsDone command held) held (Refused r) k))
+        inl (subst (λ (ds : List Demand). Demanding ds (IsDone x command held) held (reply (status_of r) (refusal_line r) held)) (append-nil (demands_of command))
+        (stops_on (demands_of command) [] (IsDone x command held) held (Refused r) k))
     by held Memory k = tt
 
 -- a text, or nothing
@@ -137,8 +139,8 @@ told_text text before after was now status (inl h) = record { work = Whole text;
 told_text text before after was now status (inr h) = record { work = Short []; is = refl; tells = h }
 
 -- What a command does with work that wrote no file.
-pub record Bears (command : Command) (files : Option Files) (work : Work) : Type 0 where
-  pub works : IfSome files (λ held. Works (CommandAnswer command held) (IsBroken command held) (Some held) work)
+pub record Bears (x : Given) (command : Command) (files : Option Files) (work : Work) : Type 0 where
+  pub works : IfSome files (λ held. Works (CommandAnswer x command held) (IsBroken command held) (Some held) work)
   pub is_work : IsWorkOf command work
   pub absent : is_absence (work_status work) ≡ false
   pub fault : is_fault (work_status work) ≡ false
@@ -149,20 +151,20 @@ counted_still P x a b r s c false e = (c.absent, c.failed)
 counted_still P x a b r s c true e = absurd cc
 
 -- what files hold was read, and such work was told
-pub carried : {X : Type 0} (Q : List ℕ → Type 0) (x : X) (command : Command) (before after : Outside) (status : Status) (P : Work → Type 0)
-    → Told P before.given after.given before.faults after.faults status → ((work : Work) → P work → Bears command before.files work)
-    → Counts {X = X} Q before.absents after.absents before.reads after.reads (Ok x) → after.files ≡ before.files → after.writes ≡ before.writes
-    → Carries command before after status
-carried Q x command before after status P told bears counts same writes =
+pub carried : {X : Type 0} (x : Given) (Q : List ℕ → Type 0) (found : X) (command : Command) (before after : Outside) (status : Status) (P : Work → Type 0)
+    → Told P before.given after.given before.faults after.faults status → ((work : Work) → P work → Bears x command before.files work)
+    → Counts {X = X} Q before.absents after.absents before.reads after.reads (Ok found) → after.files ≡ before.files → after.writes ≡ before.writes
+    → Carries x command before after status
+carried x Q found command before after status P told bears counts same writes =
     let b = bears told.work told.is in
     record {
       work = told.work;
-      works = subst (λ (o : Option Files). IfSome before.files (λ held. Works (CommandAnswer command held) (IsBroken command held) o told.work)) (sym same)
-          (by before.files (CommandAnswer command) (IsBroken command) told.work b.works);
+      works = subst (λ (o : Option Files). IfSome before.files (λ held. Works (CommandAnswer x command held) (IsBroken command held) o told.work)) (sym same)
+          (by before.files (CommandAnswer x command) (IsBroken command) told.work b.works);
       keeps = kept (written_of command);
       is_work = b.is_work;
-      absent = (counted_still Q x before.absents after.absents before.reads after.reads counts (is_absence (work_status told.work)) b.absent).0;
-      failed = (counted_still Q x before.absents after.absents before.reads after.reads counts (is_fault (work_status told.work)) b.fault).1;
+      absent = (counted_still Q found before.absents after.absents before.reads after.reads counts (is_absence (work_status told.work)) b.absent).0;
+      failed = (counted_still Q found before.absents after.absents before.reads after.reads counts (is_fault (work_status told.work)) b.fault).1;
       writes = no_writes (IsEnough command) before after told.work b.unbroken writes;
       tells = told.tells;
     }
@@ -177,16 +179,16 @@ carried Q x command before after status P told bears counts same writes =
     kept (Some name) = inl same
 
 -- a text that is the answer, or want of memory
-pub text_bears : (command : Command) (files : Option Files) (text : List ℕ) → IfSome files (λ held. CommandAnswer command held (reply statuses.Done text held)) → MayStopAt (Some command) []
-    → (work : Work) → IsText text work → Bears command files work
-text_bears command files text done stops (Whole t) is = record {
-  works = IfSome_then files done (λ held h. (held, refl, subst (λ (u : List ℕ). CommandAnswer command held (reply statuses.Done u held)) (sym is) h));
+pub text_bears : (x : Given) (command : Command) (files : Option Files) (text : List ℕ) → IfSome files (λ held. CommandAnswer x command held (reply statuses.Done text held)) → MayStopAt (Some command) []
+    → (work : Work) → IsText text work → Bears x command files work
+text_bears x command files text done stops (Whole t) is = record {
+  works = IfSome_then files done (λ held h. (held, refl, subst (λ (u : List ℕ). CommandAnswer x command held (reply statuses.Done u held)) (sym is) h));
   is_work = tt;
   absent = refl;
   fault = refl;
   unbroken = refl;
 }
-text_bears command files text done stops (Short t) is = record {
+text_bears x command files text done stops (Short t) is = record {
   works = by files;
   is_work = subst (MayStopAt (Some command)) (sym is) stops;
   absent = refl;
@@ -194,11 +196,11 @@ text_bears command files text done stops (Short t) is = record {
   unbroken = refl;
 }
   where
-    by : (o : Option Files) → IfSome o (λ held. Works (CommandAnswer command held) (IsBroken command held) (Some held) (Short t))
+    by : (o : Option Files) → IfSome o (λ held. Works (CommandAnswer x command held) (IsBroken command held) (Some held) (Short t))
     by None = tt
-    by (Some held) = (held, refl, subst (λ (u : List ℕ). CommandAnswer command held (reply statuses.WantOfMemory u held)) (sym is) (nothing_short command held))
-text_bears command files text done stops (Refusing r) is = absurd is
-text_bears command files text done stops Broken is = absurd is
+    by (Some held) = (held, refl, subst (λ (u : List ℕ). CommandAnswer x command held (reply statuses.WantOfMemory u held)) (sym is) (nothing_short x command held))
+text_bears x command files text done stops (Refusing r) is = absurd is
+text_bears x command files text done stops Broken is = absurd is
 
 -- ---- the status of work
 
@@ -394,18 +396,19 @@ module _ (work : Work) (before after : Option (List ℕ)) (was now : ℕ) (statu
 
 -- ---- all that the top call does
 
-module _ (words : List (List ℕ)) (before after : Outside) (status : Status) where
+module _ (x : Given) (words : List (List ℕ)) (before after : Outside) (status : Status) where
   some_none : (command : Command) → command_of words ≡ Some command → command_of words ≡ None → ⊥
   some_none command is none = let e : Some command ≡ None = sym is ∙ none in absurd cc
 
   -- the words name a command, which was carried out
-  pub does_command : (command : Command) → command_of words ≡ Some command → Carries command before after status → Does words before after status
-  does_command command is h =
+  pub does_command : (command : Command) → command_of words ≡ Some command → Carries x command before after status
+      → IfSome before.files (λ held. Hears command held status x) → Does x words before after status
+  does_command command is h heard =
       let tells = h.tells in
       let told : (S : Status) → S ≢ statuses.WriteFault → status ≡ S → work_status h.work ≡ S =
       λ S n e. (told_of h.work before.given after.given before.faults after.faults status S n tells e).0 in
       let same : status ≢ statuses.WriteFault → status ≡ work_status h.work = answered h.work before.given after.given before.faults after.faults status tells in
-      let answers = gives (Answer words) (MayBreak words) after.files before.given after.given before.faults after.faults status before.files h.work works tells in
+      let answers = gives (Answer x words) (MayBreak words) after.files before.given after.given before.faults after.faults status before.files h.work works tells in
       let fault : status ≡ statuses.ReadFault → Rose before.reads after.reads =
       λ e. rises (is_fault (work_status h.work)) before.reads after.reads h.failed (ap is_fault (told statuses.ReadFault (λ k. absurd cc) e)) in
       let write : status ≡ statuses.WriteFault → Rose before.writes after.writes ⊎ Rose before.faults after.faults = written tells in
@@ -417,24 +420,25 @@ module _ (words : List (List ℕ)) (before after : Outside) (status : Status) wh
         no_absent = λ n m. rests (is_absence (work_status h.work)) before.absents after.absents h.absent (no_absence (work_status h.work) (λ e. n (same m ∙ e)));
         read_fault = fault;
         no_read_fault = λ n m. rests (is_fault (work_status h.work)) before.reads after.reads h.failed (no_fault (work_status h.work) (λ e. n (same m ∙ e)));
-        refused = refused_due words before.files after.files before.given after.given status answers;
-        owed = owed words before.files after.files before.given after.given status answers before.reads after.reads before.writes after.writes before.faults after.faults fault write;
+        refused = refused_due x words before.files after.files before.given after.given status answers;
+        owed = owed x words before.files after.files before.given after.given status answers before.reads after.reads before.writes after.writes before.faults after.faults fault write;
         write_fault = write;
         no_file_fault = λ n. rests (is_broken h.work) before.writes after.writes h.writes.failed (unbroken_of h.work (λ e. n (same n ∙ e)));
         no_write_fault = unwritten h.work before.given after.given before.faults after.faults status tells;
         sure = sure before.files h.writes.sure;
-        breaks = λ e. breaks (Answer words) (MayBreak words) after.files before.given after.given before.faults after.faults status before.reads after.reads before.files command h.work h.is_work
+        breaks = λ e. breaks (Answer x words) (MayBreak words) after.files before.given after.given before.faults after.faults status before.reads after.reads before.files command h.work h.is_work
             works h.failed tells e;
         line = prints_line h.work before.given after.given before.faults after.faults status words (has_line words command is h.work h.is_work) tells;
-        complete = complete words before.files after.files before.given after.given status answers before.reads after.reads before.writes after.writes before.faults after.faults fault write;
+        complete = complete x words before.files after.files before.given after.given status answers before.reads after.reads before.writes after.writes before.faults after.faults fault write;
         keeps = subst (λ (o : Option Command). KeepsOthers (option_and_then written_of o) before.files after.files) (sym is) h.keeps;
-        headline = says_all words before.files after.files before.reads after.reads before.writes after.writes before.faults after.faults before.given after.given status answers
-            (complete words before.files after.files before.given after.given status answers before.reads after.reads before.writes after.writes before.faults after.faults fault write);
+        headline = says_all x words before.files after.files before.reads after.reads before.writes after.writes before.faults after.faults before.given after.given status answers
+            (complete x words before.files after.files before.given after.given status answers before.reads after.reads before.writes after.writes before.faults after.faults fault write);
+        told = subst (λ (o : Option Command). IfSome before.files (λ held. MatchOption o (x.told ≡ x.watch) (λ c. Hears c held status x))) (sym is) heard;
       }
     where
-      works : IfSome before.files (λ held. Works (Answer words held) (MayBreak words held) after.files h.work)
+      works : IfSome before.files (λ held. Works (Answer x words held) (MayBreak words held) after.files h.work)
       works = subst (λ (o : Option Command). IfSome before.files (λ held. Works (λ r. MatchOption o (Says held statuses.Usage usage_line r)
-          (λ c. CommandAnswer c held r)) (λ left. IsSomeAnd o (λ c. IsBroken c held left)) after.files h.work)) (sym is) h.works
+          (λ c. CommandAnswer x c held r)) (λ left. IsSomeAnd o (λ c. IsBroken c held left)) after.files h.work)) (sym is) h.works
 
       written : Tells h.work before.given after.given before.faults after.faults status → status ≡ statuses.WriteFault
           → Rose before.writes after.writes ⊎ Rose before.faults after.faults
@@ -448,23 +452,23 @@ module _ (words : List (List ℕ)) (before after : Outside) (status : Status) wh
           (f room k (subst (λ (o : Option Command). IsSomeAnd o (λ c. IsEnough c held room)) is enough))
 
 -- no command has the words, and that was told
-module _ (words : List (List ℕ)) (F : Option Files) (a r w : ℕ) (room : Option ℕ) (before after : Option (List ℕ)) (was now : ℕ) (status : Status) (none : command_of words ≡ None) where
+module _ (x : Given) (words : List (List ℕ)) (F : Option Files) (a r w : ℕ) (room : Option ℕ) (before after : Option (List ℕ)) (was now : ℕ) (status : Status) (none : command_of words ≡ None) where
   abbrev usage : Work
   usage = Refusing refusals.Usage
 
   abbrev said : Files → Reply
   said held = reply statuses.Usage usage_line held
 
-  is_answer : (held : Files) → Answer words held (said held)
-  is_answer held = subst (λ (o : Option Command). MatchOption o (Says held statuses.Usage usage_line (said held)) (λ c. CommandAnswer c held (said held))) (sym none) refl
+  is_answer : (held : Files) → Answer x words held (said held)
+  is_answer held = subst (λ (o : Option Command). MatchOption o (Says held statuses.Usage usage_line (said held)) (λ c. CommandAnswer x c held (said held))) (sym none) refl
 
-  usage_breaks : (o : Option Files) → Tells usage before after was now status → status ≡ statuses.WriteFault → Breaks (Answer words) (MayBreak words) r r o o before after
+  usage_breaks : (o : Option Files) → Tells usage before after was now status → status ≡ statuses.WriteFault → Breaks (Answer x words) (MayBreak words) r r o o before after
   usage_breaks None t e = tt
   usage_breaks (Some held) (inl failed) e =
       inl (record { reply = said held; is_allowed = is_answer held; part = failed.2; leaves = refl; failed = λ e. absurd cc; read = λ n. refl })
   usage_breaks (Some held) (inr t) e = let k = sym t.0 ∙ e in absurd cc
 
-  answers : (o : Option Files) → Tells usage before after was now status → Answers (Answer words) o o before after status
+  answers : (o : Option Files) → Tells usage before after was now status → Answers (Answer x words) o o before after status
   answers None t = tt
   answers (Some held) (inl failed) = inl failed.0
   answers (Some held) (inr t) = inr (said held, is_answer held, record { answered = t.0; printed = t.2; leaves = refl })
@@ -473,8 +477,12 @@ module _ (words : List (List ℕ)) (F : Option Files) (a r w : ℕ) (room : Opti
   all_sure None = tt
   all_sure (Some held) = λ k e f. refl
 
-  pub does_usage : Tells usage before after was now status → Does words (outside F a r w room before was) (outside F a r w room after now) status
-  does_usage told =
+  untold : (o : Option Files) → x.told ≡ x.watch → IfSome o (λ held. AreTold words held status x)
+  untold None same = tt
+  untold (Some held) same = subst (λ (o : Option Command). MatchOption o (x.told ≡ x.watch) (λ c. Hears c held status x)) (sym none) same
+
+  pub does_usage : Tells usage before after was now status → x.told ≡ x.watch → Does x words (outside F a r w room before was) (outside F a r w room after now) status
+  does_usage told same =
       let fault : status ≡ statuses.ReadFault → Rose r r = λ e. (let t = (told_of usage before after was now status statuses.ReadFault (λ k. absurd cc) told e).0 in absurd cc) in
       let write : status ≡ statuses.WriteFault → Rose w w ⊎ Rose was now = written told in
       record {
@@ -485,17 +493,18 @@ module _ (words : List (List ℕ)) (F : Option Files) (a r w : ℕ) (room : Opti
         no_absent = λ n m. refl;
         read_fault = fault;
         no_read_fault = λ n m. refl;
-        refused = refused_due words F F before after status (answers F told);
-        owed = owed words F F before after status (answers F told) r r w w was now fault write;
+        refused = refused_due x words F F before after status (answers F told);
+        owed = owed x words F F before after status (answers F told) r r w w was now fault write;
         write_fault = write;
         no_file_fault = λ n. refl;
         no_write_fault = unwritten usage before after was now status told;
         sure = all_sure F;
         breaks = usage_breaks F told;
         line = prints_line usage before after was now status words refl told;
-        complete = complete words F F before after status (answers F told) r r w w was now fault write;
+        complete = complete x words F F before after status (answers F told) r r w w was now fault write;
         keeps = subst (λ (o : Option Command). KeepsOthers (option_and_then written_of o) F F) (sym none) refl;
-        headline = says_all words F F r r w w was now before after status (answers F told) (complete words F F before after status (answers F told) r r w w was now fault write);
+        headline = says_all x words F F r r w w was now before after status (answers F told) (complete x words F F before after status (answers F told) r r w w was now fault write);
+        told = untold F same;
       }
     where
       written : Tells usage before after was now status → status ≡ statuses.WriteFault → Rose w w ⊎ Rose was now

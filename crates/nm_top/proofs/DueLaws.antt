@@ -12,6 +12,7 @@ use Rattle.nm_top.specs.Statuses.{is_of_files}
 use Rattle.nm_top.specs.Replies.{Reply, Says, Answers, Owed}
 use Rattle.nm_top.specs.Demands.{Demand, Fetch, fetch_of, Admits, HoldsIn, IsMissing, IsPastLimit, IsMet, AreMet, FailsAs, missing, too_long, refused, FirstFailsAs}
 use Rattle.nm_top.specs.Answers as answers
+use Rattle.nm_top.specs.Watches.{Given}
 use Rattle.nm_top.specs.Answers.{IsReason, Refuses, FailsToRead, Demanding, IsDone, IsShort, CommandAnswer, Answer, demands_of, Due, Ready}
 use Rattle.nm_outside.specs.Causes.{Rose}
 
@@ -122,29 +123,29 @@ module _ (held : Files) (done : Reply → Type 0) (ends : (reply : Reply) → do
   all_met (demand ∷ demands) reply (inr (inl h)) n met = absurd (unmet held demand reply.status (fails held demand reply h) met.0)
   all_met (demand ∷ demands) reply (inr (inr h)) n met = all_met demands reply h.1 n met.1
 
-done_ends : (command : Command) (held : Files) (r : Reply) → IsDone command held r → r.status ≡ Done
-done_ends command held r h = ap (λ (r : Reply). r.status) h.3
+done_ends : (x : Given) (command : Command) (held : Files) (r : Reply) → IsDone x command held r → r.status ≡ Done
+done_ends x command held r h = ap (λ (r : Reply). r.status) h.3
 
 pub short_ends : (command : Command) (held : Files) (r : Reply) → IsShort command held r → r.status ≡ WantOfMemory
 short_ends command held r h = ap (λ (r : Reply). r.status) h.3
 
 -- ---- the answer to words
 
-module _ (words : List (List ℕ)) (told left : Option Files) (before after : Option (List ℕ)) (status : Status) (answer : Answers (Answer words) told left before after status) where
+module _ (x : Given) (words : List (List ℕ)) (told left : Option Files) (before after : Option (List ℕ)) (status : Status) (answer : Answers (Answer x words) told left before after status) where
   -- a status that refuses files is due
   pub refused_due : is_of_files status ≡ true → IfSome told (Due status words)
   refused_due e = by told answer
     where
-      of_answer : (held : Files) (c : Command) (r : Reply) → r.status ≡ status → CommandAnswer c held r → FirstFailsAs status (demands_of c) held
-      of_answer held c r is (inl h) = subst (λ (s : Status). FirstFailsAs s (demands_of c) held) is (first_fails held (IsDone c held) (done_ends c held) (demands_of c) r h (ap is_of_files is ∙ e))
+      of_answer : (held : Files) (c : Command) (r : Reply) → r.status ≡ status → CommandAnswer x c held r → FirstFailsAs status (demands_of c) held
+      of_answer held c r is (inl h) = subst (λ (s : Status). FirstFailsAs s (demands_of c) held) is (first_fails held (IsDone x c held) (done_ends x c held) (demands_of c) r h (ap is_of_files is ∙ e))
       of_answer held c r is (inr h) = absurd (false≢true (ap is_of_files (sym (short_ends c held r h) ∙ is) ∙ e))
 
-      of_reply : (held : Files) (o : Option Command) (r : Reply) → r.status ≡ status → MatchOption o (Says held Usage usage_line r) (λ c. CommandAnswer c held r)
+      of_reply : (held : Files) (o : Option Command) (r : Reply) → r.status ≡ status → MatchOption o (Says held Usage usage_line r) (λ c. CommandAnswer x c held r)
           → IsSomeAnd o (λ c. FirstFailsAs status (demands_of c) held)
       of_reply held None r is says = absurd (false≢true (ap is_of_files (sym (ap (λ (r : Reply). r.status) says) ∙ is) ∙ e))
       of_reply held (Some c) r is h = of_answer held c r is h
 
-      by : (o : Option Files) → Answers (Answer words) o left before after status → IfSome o (Due status words)
+      by : (o : Option Files) → Answers (Answer x words) o left before after status → IfSome o (Due status words)
       by None h = tt
       by (Some held) (inl k) = absurd (false≢true (sym (ap is_of_files k) ∙ e))
       by (Some held) (inr h) = of_reply held (command_of words) h.0 (sym h.2.answered) h.1
@@ -153,16 +154,16 @@ module _ (words : List (List ℕ)) (told left : Option Files) (before after : Op
       (write_fault : status ≡ WriteFault → Rose writes writes' ⊎ Rose faults faults') where
     -- what is decided where no read fails is owed
     owed_by : (Q : Command → Files → Type 0) (S : Status)
-        → ((c : Command) (held : Files) (r : Reply) → Demanding (demands_of c) (IsDone c held) held r → r.status ≢ ReadFault → Q c held → r.status ≡ S)
+        → ((c : Command) (held : Files) (r : Reply) → Demanding (demands_of c) (IsDone x c held) held r → r.status ≢ ReadFault → Q c held → r.status ≡ S)
         → IfSome told (λ held. IsSomeAnd (command_of words) (λ c. Q c held) → Owed S reads reads' writes writes' faults faults' status)
     owed_by Q S f = by told answer
       where
-        of_answer : (held : Files) (c : Command) (r : Reply) → r.status ≢ ReadFault → Q c held → CommandAnswer c held r → (r.status ≡ S) ⊎ (r.status ≡ WantOfMemory)
+        of_answer : (held : Files) (c : Command) (r : Reply) → r.status ≢ ReadFault → Q c held → CommandAnswer x c held r → (r.status ≡ S) ⊎ (r.status ≡ WantOfMemory)
         of_answer held c r n q (inl h) = inl (f c held r h n q)
         of_answer held c r n q (inr h) = inr (short_ends c held r h)
 
         of_reply : (held : Files) (o : Option Command) (r : Reply) → r.status ≢ ReadFault → IsSomeAnd o (λ c. Q c held)
-            → MatchOption o (Says held Usage usage_line r) (λ c. CommandAnswer c held r) → (r.status ≡ S) ⊎ (r.status ≡ WantOfMemory)
+            → MatchOption o (Says held Usage usage_line r) (λ c. CommandAnswer x c held r) → (r.status ≡ S) ⊎ (r.status ≡ WantOfMemory)
         of_reply held None r n q h = absurd q
         of_reply held (Some c) r n q h = of_answer held c r n q h
 
@@ -174,7 +175,7 @@ module _ (words : List (List ℕ)) (told left : Option Files) (before after : Op
         no_write (inl k) n m = n k
         no_write (inr k) n m = m k
 
-        by : (o : Option Files) → Answers (Answer words) o left before after status
+        by : (o : Option Files) → Answers (Answer x words) o left before after status
             → IfSome o (λ held. IsSomeAnd (command_of words) (λ c. Q c held) → Owed S reads reads' writes writes' faults faults' status)
         by None a = tt
         by (Some held) (inl k) = λ q r w m. absurd (no_write (write_fault k) w m)
@@ -182,7 +183,7 @@ module _ (words : List (List ℕ)) (told left : Option Files) (before after : Op
 
     owed_at : (due : Status) → IfSome told (λ held. Due due words held → Owed due reads reads' writes writes' faults faults' status)
     owed_at due = owed_by (λ c held. FirstFailsAs due (demands_of c) held) due
-        (λ c held r h n first. decided held (IsDone c held) (done_ends c held) (demands_of c) r due h n first)
+        (λ c held r h n first. decided held (IsDone x c held) (done_ends x c held) (demands_of c) r due h n first)
 
     -- what is due is owed
     pub owed : IfSome told (λ held. (due : Status) → Due due words held → Owed due reads reads' writes writes' faults faults' status)
@@ -194,4 +195,4 @@ module _ (words : List (List ℕ)) (told left : Option Files) (before after : Op
         by (Some held) f = f
 
     pub complete : IfSome told (λ held. Ready words held → Owed Done reads reads' writes writes' faults faults' status)
-    complete = owed_by (λ c held. AreMet (demands_of c) held) Done (λ c held r h n met. all_met held (IsDone c held) (done_ends c held) (demands_of c) r h n met)
+    complete = owed_by (λ c held. AreMet (demands_of c) held) Done (λ c held r h n met. all_met held (IsDone x c held) (done_ends x c held) (demands_of c) r h n met)

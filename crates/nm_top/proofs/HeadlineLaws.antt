@@ -34,6 +34,7 @@ use Rattle.nm_top.specs.Schedules.{IsSchedule, seen_turn}
 use Rattle.nm_top.specs.Demands.{Demand, ProgramText, ScheduleText, TraceText, SameProgram, TraceSchedule, Finishes, Matches, HoldsIn, schedule_file, refusal_of, IsMet, AreMet, Admits, FailsAs, missing, too_long, refused}
 use Rattle.nm_top.specs.Finishing.{replayed, finished, replay_text, finish_text, entries_of}
 use Rattle.nm_top.specs.Replies.{Reply, Says, Answers, Owed}
+use Rattle.nm_top.specs.Watches.{Given, Hear, watch_lines}
 use Rattle.nm_top.specs.Replays.{ReplayPrints, FinishPrints}
 use Rattle.nm_top.specs.Certifying.{Certifies, AreCertified, CertifyPrints}
 use Rattle.nm_top.specs.Certifying as certifying
@@ -81,24 +82,30 @@ module _ (held : Files) (program trace : List ℕ) (h : IsRecording held program
   entries = same_entries_of s T (recorded h) (finished p t).events full_replay
 
   -- what was printed of the files' program and trace is said of the recording's
-  shows_replay : (schedule printed : List ℕ) → ReplayPrints program trace schedule held printed → ShowsReplay h schedule printed
-  shows_replay schedule printed k =
+  shows_replay : (x : Given) (schedule printed : List ℕ) → ReplayPrints x program trace schedule held printed → ShowsReplay x h schedule printed
+  shows_replay x schedule printed k =
       let same = one_replay held program trace k.of_program p k.content t k.has h.has in
       record {
         turns = k.turns;
         has_schedule = subst (λ (u : Content). HoldsIn held (λ text. IsSchedule u.n text k.turns) (schedule_file schedule)) same.1 k.has_schedule;
         follows = follows p t.n T (recorded h) (replayed p t k.turns) is_recorded (replay_of_replays s lawful T (map seen_turn k.turns));
-        is = k.is ∙ ap (λ (q : Program). replay_text q k.content k.turns) same.0 ∙ ap (λ (u : Content). replay_text p u k.turns) same.1;
+        hear = subst (λ (u : Content). Hear (replayed p u k.turns) x) same.1 (subst (λ (q : Program). Hear (replayed q k.content k.turns) x) same.0 k.hear);
+        is = k.is ∙ ap (λ (q : Program). replay_text q k.content k.turns ++ watch_lines 0 x.told) same.0 ∙ ap (λ (u : Content). replay_text p u k.turns ++ watch_lines 0 x.told) same.1;
       }
 
-  shows_run : (printed : List ℕ) → FinishPrints program trace held printed → ShowsRun h printed
-  shows_run printed k =
+  shows_run : (x : Given) (printed : List ℕ) → FinishPrints x program trace held printed → ShowsRun x h printed
+  shows_run x printed k =
       let same = one_replay held program trace k.of_program p k.content t k.has h.has in
       record {
         turns = (finished p t).turns;
         idle = (finished p t).idle;
-        is = k.is ∙ ap (λ (q : Program). finish_text q k.content) same.0 ∙ ap (λ (u : Content). finish_text p u) same.1
-            ∙ ap (λ (text : List ℕ). text ++ turns_line (finished p t).turns (finished p t).idle) (full p t.n T (recorded h) (finished p t).events is_recorded finish_is_replay counts_reached);
+        made = (finished p t).events;
+        follows = follows p t.n T (recorded h) (finished p t).events is_recorded finish_is_replay;
+        whole = λ q. counts_reached q ∙ h.is_trace.counts q;
+        hear = subst (λ (u : Content). Hear (finished p u).events x) same.1 (subst (λ (q : Program). Hear (finished q k.content).events x) same.0 k.hear);
+        is = k.is ∙ ap (λ (q : Program). finish_text q k.content ++ watch_lines 0 x.told) same.0 ∙ ap (λ (u : Content). finish_text p u ++ watch_lines 0 x.told) same.1
+            ∙ ap (λ (text : List ℕ). text ++ turns_line (finished p t).turns (finished p t).idle ++ watch_lines 0 x.told)
+            (full p t.n T (recorded h) (finished p t).events is_recorded finish_is_replay counts_reached);
       }
 
   witnessed : (letter : LetterId) (w : Witness) → Certifies p t.n t.mask (finished p t).events letter w → IsWitnessed p t.n t.mask (recorded h) letter w
@@ -145,12 +152,12 @@ module _ (held : Files) (program trace : List ℕ) (h : IsRecording held program
   scheduled schedule turns k =
       held_more held (schedule_file schedule) (λ text. IsSchedule t.n text turns) (Admits (TraceSchedule trace schedule) held) (λ text r. (t, turns, h.has.has_trace, r)) k
 
-module _ (held : Files) where
-  shown : (command : Command) (printed : List ℕ) (left : Files) → Carried command held printed left → Shows command held printed
+module _ (x : Given) (held : Files) where
+  shown : (command : Command) (printed : List ℕ) (left : Files) → Carried x command held printed left → Shows x command held printed
   shown (Run program n schedule mask) printed left k = tt
   shown (Record program n schedule trace version mask) printed left k = tt
-  shown (Replay program trace schedule) printed left k = λ h. shows_replay held program trace h schedule printed k.0
-  shown (Finish program trace) printed left k = λ h. shows_run held program trace h printed k.0
+  shown (Replay program trace schedule) printed left k = λ h. shows_replay held program trace h x schedule printed k.0
+  shown (Finish program trace) printed left k = λ h. shows_run held program trace h x printed k.0
   shown (Certify program trace) printed left k = λ h. shows_races held program trace h printed k.0
   shown (Upgrade trace new) printed left k = tt
 
@@ -185,33 +192,33 @@ module _ (held : Files) where
   is_done (demand ∷ demands) done r (inr (inl h)) e = absurd (refused_no_done demand r.status (fails held demand r h) e)
   is_done (demand ∷ demands) done r (inr (inr h)) e = is_done demands done r h.1 e
 
-  shown_by : (command : Command) (r : Reply) → CommandAnswer command held r → r.status ≡ Done → Shows command held r.printed
+  shown_by : (command : Command) (r : Reply) → CommandAnswer x command held r → r.status ≡ Done → Shows x command held r.printed
   shown_by command r (inl h) e =
-      let k = is_done (demands_of command) (IsDone command held) r h e in
-      subst (Shows command held) (sym (ap (λ (r : Reply). r.printed) k.3)) (shown command k.0 k.1 k.2)
+      let k = is_done (demands_of command) (IsDone x command held) r h e in
+      subst (Shows x command held) (sym (ap (λ (r : Reply). r.printed) k.3)) (shown command k.0 k.1 k.2)
   shown_by command r (inr h) e = let k = sym (short_ends command held r h) ∙ e in absurd cc
 
   module _ (words : List (List ℕ)) (left : Option Files) (reads reads' writes writes' faults faults' : ℕ) (before after : Option (List ℕ)) (status : Status) where
-    shows : Answers (Answer words) (Some held) left before after status → (command : Command) → command_of words ≡ Some command → status ≡ Done
-        → (text : List ℕ) × Shows command held text × Appends before after text
+    shows : Answers (Answer x words) (Some held) left before after status → (command : Command) → command_of words ≡ Some command → status ≡ Done
+        → (text : List ℕ) × Shows x command held text × Appends before after text
     shows (inl k) command is e = let a = sym k ∙ e in absurd cc
     shows (inr a) command is e = (
       a.0.printed,
-      shown_by command a.0 (subst (λ (o : Option Command). MatchOption o (Says held Usage usage_line a.0) (λ c. CommandAnswer c held a.0)) is a.1) (sym a.2.answered ∙ e),
+      shown_by command a.0 (subst (λ (o : Option Command). MatchOption o (Says held Usage usage_line a.0) (λ c. CommandAnswer x c held a.0)) is a.1) (sym a.2.answered ∙ e),
       a.2.printed,
     )
 
-    pub says : Answers (Answer words) (Some held) left before after status → (Ready words held → Owed Done reads reads' writes writes' faults faults' status)
-        → Headline words held reads reads' writes writes' faults faults' before after status
+    pub says : Answers (Answer x words) (Some held) left before after status → (Ready words held → Owed Done reads reads' writes writes' faults faults' status)
+        → Headline x words held reads reads' writes writes' faults faults' before after status
     says answer complete = record {
       done = λ command is k. complete (subst (λ (o : Option Command). IsSomeAnd o (λ c. AreMet (demands_of c) held)) (sym is) (ready command k));
       shows = shows answer;
     }
 
 -- where the files are told
-pub says_all : (words : List (List ℕ)) (told left : Option Files) (reads reads' writes writes' faults faults' : ℕ) (before after : Option (List ℕ)) (status : Status)
-    → Answers (Answer words) told left before after status → IfSome told (λ held. Ready words held → Owed Done reads reads' writes writes' faults faults' status)
-    → IfSome told (λ held. Headline words held reads reads' writes writes' faults faults' before after status)
-says_all words None left reads reads' writes writes' faults faults' before after status answer complete = tt
-says_all words (Some held) left reads reads' writes writes' faults faults' before after status answer complete =
-    says held words left reads reads' writes writes' faults faults' before after status answer complete
+pub says_all : (x : Given) (words : List (List ℕ)) (told left : Option Files) (reads reads' writes writes' faults faults' : ℕ) (before after : Option (List ℕ)) (status : Status)
+    → Answers (Answer x words) told left before after status → IfSome told (λ held. Ready words held → Owed Done reads reads' writes writes' faults faults' status)
+    → IfSome told (λ held. Headline x words held reads reads' writes writes' faults faults' before after status)
+says_all x words None left reads reads' writes writes' faults faults' before after status answer complete = tt
+says_all x words (Some held) left reads reads' writes writes' faults faults' before after status answer complete =
+    says x held words left reads reads' writes writes' faults faults' before after status answer complete

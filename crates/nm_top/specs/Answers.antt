@@ -55,6 +55,7 @@ use Rattle.nm_top.specs.Demands.{
 }
 use Rattle.nm_top.specs.Finishing.{finished}
 use Rattle.nm_top.specs.Replies.{Reply, reply, Says}
+use Rattle.nm_top.specs.Watches.{Given}
 use Rattle.nm_top.specs.Runs.{run_demands, RunPrints}
 use Rattle.nm_top.specs.Recordings.{ToRecord, RecordDoes, RecordStops, RecordBreaks, RecordFits}
 use Rattle.nm_top.specs.Replays.{ReplayPrints, FinishPrints}
@@ -82,16 +83,16 @@ to_record program n schedule trace version mask =
     record { program = program; n = n; schedule = schedule; trace = trace; version = version; mask = mask }
 
 -- what it prints, and what it leaves, where all that is met
-abbrev pub Carried : Command → Files → List ℕ → Files → Type 0
-Carried (Run program n schedule mask) files printed left =
+abbrev pub Carried : Given → Command → Files → List ℕ → Files → Type 0
+Carried x (Run program n schedule mask) files printed left =
     RunPrints program n schedule mask files printed × (left ≡ files)
-Carried (Record program n schedule trace version mask) files printed left =
+Carried x (Record program n schedule trace version mask) files printed left =
     RecordDoes (to_record program n schedule trace version mask) files printed left
-Carried (Replay program trace schedule) files printed left =
-    ReplayPrints program trace schedule files printed × (left ≡ files)
-Carried (Finish program trace) files printed left = FinishPrints program trace files printed × (left ≡ files)
-Carried (Certify program trace) files printed left = CertifyPrints program trace files printed × (left ≡ files)
-Carried (Upgrade trace new) files printed left = UpgradeDoes trace new files printed left
+Carried x (Replay program trace schedule) files printed left =
+    ReplayPrints x program trace schedule files printed × (left ≡ files)
+Carried x (Finish program trace) files printed left = FinishPrints x program trace files printed × (left ≡ files)
+Carried x (Certify program trace) files printed left = CertifyPrints program trace files printed × (left ≡ files)
+Carried x (Upgrade trace new) files printed left = UpgradeDoes trace new files printed left
 
 -- what was done before there was want of memory: nothing; or the turns of a recording, or the first certificates
 abbrev pub StopsEarly : Command → Files → List ℕ → Files → Type 0
@@ -206,24 +207,24 @@ Demanding (demand ∷ demands) done files r =
 -- ---- answers
 
 -- a command is done
-abbrev pub IsDone : Command → Files → Reply → Type 0
-IsDone command files r =
-    (printed : List ℕ) × (left : Files) × Carried command files printed left × (r ≡ reply Done printed left)
+abbrev pub IsDone : Given → Command → Files → Reply → Type 0
+IsDone x command files r =
+    (printed : List ℕ) × (left : Files) × Carried x command files printed left × (r ≡ reply Done printed left)
 
 -- memory was refused
 abbrev pub IsShort : Command → Files → Reply → Type 0
 IsShort command files r =
     (printed : List ℕ) × (left : Files) × RunsShort command files printed left × (r ≡ reply WantOfMemory printed left)
 
--- the answer to a command
-abbrev pub CommandAnswer : Command → Files → Reply → Type 0
-CommandAnswer command files r =
-    Demanding (demands_of command) (IsDone command files) files r ⊎ IsShort command files r
+-- the answer to a command, with these watchers
+abbrev pub CommandAnswer : Given → Command → Files → Reply → Type 0
+CommandAnswer x command files r =
+    Demanding (demands_of command) (IsDone x command files) files r ⊎ IsShort command files r
 
--- the answer to words
-abbrev pub Answer : List (List ℕ) → Files → Reply → Type 0
-Answer words files r =
-    MatchOption (command_of words) (Says files Usage usage_line r) (λ command. CommandAnswer command files r)
+-- the answer to words, with these watchers
+abbrev pub Answer : Given → List (List ℕ) → Files → Reply → Type 0
+Answer x words files r =
+    MatchOption (command_of words) (Says files Usage usage_line r) (λ command. CommandAnswer x command files r)
 
 -- The words name a command, a write of which may leave the files so where it fails.
 abbrev pub MayBreak : List (List ℕ) → Files → Files → Type 0

@@ -1,6 +1,6 @@
 //! The top call.
 
-ghost use Rattle.std.specs.Prelude.{◌≡◌, ◌≢◌, ◌⊎◌, ℕ, IfSome, IsTrue, None, Some};
+ghost use Rattle.std.specs.Prelude.{◌≡◌, ◌≢◌, ◌⊎◌, ℕ, map, IfSome, IsTrue, None, Some};
 ghost use Rattle.nm_outside.specs.Causes.{Rose};
 ghost use Rattle.nm_top.specs.declared.status.Status.{Status};
 ghost use Rattle.nm_top.specs.Commands.{command_of, texts};
@@ -9,6 +9,8 @@ ghost use Rattle.nm_top.specs.Headline.{Headline};
 ghost use Rattle.nm_top.specs.Lines.{PrintsLine};
 ghost use Rattle.nm_top.specs.Replies.{Answers, Breaks, KeepsOthers, Owed};
 ghost use Rattle.nm_top.specs.Answers.{Answer, Due, MayBreak, Ready, Suffices, written_by};
+ghost use Rattle.nm_top.specs.Watches.{given};
+ghost use Rattle.nm_top.specs.Heard.{AreTold, Hears};
 ghost use Rattle.nm_top.specs.private.Named.{IsInRange, named};
 ghost use Rattle.nm_top.specs.private.Works.{Carries, outside};
 ghost use Rattle.nm_top.specs.private.Top.{Does};
@@ -26,6 +28,7 @@ use crate::words::{Command, command_in};
 use nm_outside::{Cabinet, Sink};
 use report::Refusal;
 use std::alloc::Global;
+use watchers::Watcher;
 
 // Carries out a command.
 fn carry_out<C: Cabinet, O: Sink>(
@@ -33,13 +36,16 @@ fn carry_out<C: Cabinet, O: Sink>(
     command: Command<'_>,
     files: &mut C,
     out: &mut O,
+    watch: &mut Vec<Box<dyn Watcher>>,
 ) -> Status
     requires { IsInRange command }
-    ensures { Carries (named command.entry)
+    ensures carries { Carries (given (map watched watch.old.items) (map watched watch.new.items)) (named command.entry)
         (outside (C.files files.old) (C.absents files.old) (C.read_faults files.old) (C.write_faults files.old)
         (C.sure_room files.old) (O.given out.old) (O.faults out.old))
         (outside (C.files files.new) (C.absents files.new) (C.read_faults files.new) (C.write_faults files.new)
         (C.sure_room files.new) (O.given out.new) (O.faults out.new)) result }
+    ensures told { IfSome (C.files files.old) (λ held. Hears (named command.entry) held result
+        (given (map watched watch.old.items) (map watched watch.new.items))) }
 {
     match command {
         Command::Run {
@@ -67,39 +73,46 @@ fn carry_out<C: Cabinet, O: Sink>(
             program,
             trace,
             schedule,
-        } => replay(alloc, program, trace, schedule, files, out),
-        Command::Finish { program, trace } => finish(alloc, program, trace, files, out),
+        } => replay(alloc, program, trace, schedule, files, out, watch),
+        Command::Finish { program, trace } => finish(alloc, program, trace, files, out, watch),
         Command::Certify { program, trace } => certify(alloc, program, trace, files, out),
         Command::Upgrade { trace, new } => upgrade(alloc, trace, new, files, out),
     }
 }
 
 // Carries out the command that the words name.
-fn work<C: Cabinet, O: Sink>(alloc: Global, words: &[String], files: &mut C, out: &mut O) -> Status
-    ensures { Does (texts words.now)
+fn work<C: Cabinet, O: Sink>(
+    alloc: Global,
+    words: &[String],
+    files: &mut C,
+    out: &mut O,
+    watch: &mut Vec<Box<dyn Watcher>>,
+) -> Status
+    ensures { Does (given (map watched watch.old.items) (map watched watch.new.items)) (texts words.now)
         (outside (C.files files.old) (C.absents files.old) (C.read_faults files.old) (C.write_faults files.old)
         (C.sure_room files.old) (O.given out.old) (O.faults out.old))
         (outside (C.files files.new) (C.absents files.new) (C.read_faults files.new) (C.write_faults files.new)
         (C.sure_room files.new) (O.given out.new) (O.faults out.new)) result }
 {
     match command_in(words) {
-        Some(command) => carry_out(alloc, command, files, out),
+        Some(command) => carry_out(alloc, command, files, out, watch),
         None => tell(out, &Stop::Refused(Refusal::Usage)),
     }
 }
 
 /// Does all that the tool does: carries out the command that the words name over these files, prints to
-/// this sink, and answers the status.
+/// this sink, tells these watchers of the events of a replay, and answers the status.
 pub fn racetrace<C: Cabinet, O: Sink>(
     alloc: Global,
     words: &[String],
     files: &mut C,
     out: &mut O,
+    watch: &mut Vec<Box<dyn Watcher>>,
 ) -> Status
     // What is answered and printed, and what the files are then, is the answer that is defined for the
     // words and the files that are told, unless a write failed.
-    ensures answer { Answers (Answer (texts words.now)) (C.files files.old) (C.files files.new) (O.given out.old)
-        (O.given out.new) result }
+    ensures answer { Answers (Answer (given (map watched watch.old.items) (map watched watch.new.items))
+        (texts words.now)) (C.files files.old) (C.files files.new) (O.given out.old) (O.given out.new) result }
 
     // Usage comes exactly where no command has these words. Each refusal gives way to a write fault.
     ensures usage { result ≡ Status.Usage → command_of (texts words.now) ≡ None }
@@ -131,9 +144,10 @@ pub fn racetrace<C: Cabinet, O: Sink>(
     ensures no_write_fault { result ≢ Status.WriteFault → O.faults out.new ≡ O.faults out.old }
     ensures sure { IfSome (C.files files.old) (λ held. (room : ℕ) → C.sure_room files.old ≡ Some room
         → Suffices (texts words.now) held room → C.write_faults files.new ≡ C.write_faults files.old) }
-    ensures breaks { result ≡ Status.WriteFault → Breaks (Answer (texts words.now)) (MayBreak (texts words.now))
-        (C.read_faults files.old) (C.read_faults files.new) (C.files files.old) (C.files files.new) (O.given out.old)
-        (O.given out.new) }
+    ensures breaks { result ≡ Status.WriteFault
+        → Breaks (Answer (given (map watched watch.old.items) (map watched watch.new.items)) (texts words.now))
+        (MayBreak (texts words.now)) (C.read_faults files.old) (C.read_faults files.new) (C.files files.old)
+        (C.files files.new) (O.given out.old) (O.given out.new) }
 
     // A refusal prints its one line, which names a file that the command fetches, and want of memory nothing, but for
     // a recording's line and certificates, also where the files aren't told.
@@ -149,12 +163,18 @@ pub fn racetrace<C: Cabinet, O: Sink>(
     // events, states and output, with the same letter at each receive; without a schedule it comes to the recorded
     // counts. A certificate is printed for each letter that is logged in that run: another run, which keeps both causal
     // pasts, and in which the last earlier receive that could have accepted the letter accepts it.
-    ensures headline { IfSome (C.files files.old) (λ held. Headline (texts words.now) held (C.read_faults files.old)
-        (C.read_faults files.new) (C.write_faults files.old) (C.write_faults files.new) (O.faults out.old)
-        (O.faults out.new) (O.given out.old) (O.given out.new) result) }
+    ensures headline { IfSome (C.files files.old) (λ held. Headline
+        (given (map watched watch.old.items) (map watched watch.new.items)) (texts words.now) held
+        (C.read_faults files.old) (C.read_faults files.new) (C.write_faults files.old) (C.write_faults files.new)
+        (O.faults out.old) (O.faults out.new) (O.given out.old) (O.given out.new) result) }
+
+    // The watchers were told of the events of the replay that was made, each once and in order; with no other words were
+    // they told of any. Those that lacked memory, none of them steady, are out.
+    ensures told { IfSome (C.files files.old) (λ held. AreTold (texts words.now) held result
+        (given (map watched watch.old.items) (map watched watch.new.items))) }
 
     // No file changes but the one that the command writes.
     ensures keeps { KeepsOthers (written_by (texts words.now)) (C.files files.old) (C.files files.new) }
 {
-    work(alloc, words, files, out)
+    work(alloc, words, files, out, watch)
 }

@@ -1,6 +1,7 @@
 //! What a line of a table says.
 
 use crate::fault::Fault;
+use crate::setup::WatcherName;
 use nm_outside::{CabinetCall, CabinetFail, SinkFail};
 use nm_top::Status;
 
@@ -54,6 +55,7 @@ pub enum Line<'a> {
         first: Option<Piece<'a>>,
     },
     Fails(Fail),
+    Watch(WatcherName),
     Call {
         words: &'a str,
     },
@@ -88,6 +90,7 @@ pub fn line_of(text: &str) -> Result<Line<'_>, Fault> {
             count: number(rest)?,
         }),
         "fails" => Ok(Line::Fails(fail_of(rest)?)),
+        "watch" => Ok(Line::Watch(watcher_of(rest)?)),
         "call" => Ok(Line::Call { words: rest }),
         "ends" => Ok(Line::Ends(status_of(rest)?)),
         "lacks" => Ok(Line::Lacks { name: rest.trim() }),
@@ -191,6 +194,15 @@ fn fail_of(text: &str) -> Result<Fail, Fault> {
         _ => return Err(Fault::Line),
     };
     Ok(Fail::Cabinet(CabinetFail { call, nth, kept }))
+}
+
+fn watcher_of(name: &str) -> Result<WatcherName, Fault> {
+    match name.trim() {
+        "KindCount" => Ok(WatcherName::KindCount),
+        "FaultStop" => Ok(WatcherName::FaultStop),
+        "LetterLog" => Ok(WatcherName::LetterLog),
+        _ => Err(Fault::Watcher),
+    }
 }
 
 fn status_of(name: &str) -> Result<Status, Fault> {

@@ -4,11 +4,33 @@ use crate::fault::Fault;
 use crate::line::Fail;
 use nm_outside::{CabinetFail, SinkFail};
 use std::alloc::Global;
+use watchers::{FaultStop, KindCount, LetterLog, Watcher};
 
 /// The room of a sink of which the table says nothing: for the longest output of a process.
 const SINK_ROOM: u32 = 1_100_000;
 
-/// The files before the first call, how much room there is, and what fails.
+/// How many watchers a row may have.
+pub const MAX_WATCHERS: usize = 100;
+
+/// The kinds of watchers.
+#[derive(Clone, Copy, Debug, PartialEq, Eq)]
+pub enum WatcherName {
+    KindCount,
+    FaultStop,
+    LetterLog,
+}
+
+impl WatcherName {
+    fn make(self, alloc: Global) -> Result<Box<dyn Watcher>, Fault> {
+        Ok(match self {
+            WatcherName::KindCount => Box::new(alloc, KindCount::new())?,
+            WatcherName::FaultStop => Box::new(alloc, FaultStop::new())?,
+            WatcherName::LetterLog => Box::new(alloc, LetterLog::new(alloc)?)?,
+        })
+    }
+}
+
+/// The files before the first call, how much room there is, what fails, and what watches.
 #[derive(Drop)]
 pub struct Setup {
     /// No two of one name.
@@ -19,10 +41,12 @@ pub struct Setup {
     pub sink_room: u32,
     pub cabinet_fails: Vec<CabinetFail>,
     pub sink_fails: Vec<SinkFail>,
+    /// Made anew for each call, in this order.
+    pub watchers: Vec<WatcherName>,
 }
 
 impl Setup {
-    /// No file and no room for one, and nothing fails.
+    /// No file and no room for one, nothing fails, and nothing watches.
     pub fn new(alloc: Global) -> Setup {
         Setup {
             files: Vec::new(alloc),
@@ -30,6 +54,7 @@ impl Setup {
             sink_room: SINK_ROOM,
             cabinet_fails: Vec::new(alloc),
             sink_fails: Vec::new(alloc),
+            watchers: Vec::new(alloc),
         }
     }
 
@@ -45,6 +70,7 @@ impl Setup {
             sink_room: self.sink_room,
             cabinet_fails: Vec::from_slice(alloc, &self.cabinet_fails)?,
             sink_fails: Vec::from_slice(alloc, &self.sink_fails)?,
+            watchers: Vec::from_slice(alloc, &self.watchers)?,
         })
     }
 
@@ -53,6 +79,23 @@ impl Setup {
         self.files.retain(|file| file.0.as_str() != name.as_str());
         self.files.push((name, bytes))?;
         Ok(())
+    }
+
+    pub fn watch(&mut self, watcher: WatcherName) -> Result<(), Fault> {
+        if self.watchers.len() >= MAX_WATCHERS {
+            return Err(Fault::Place);
+        }
+        self.watchers.push(watcher)?;
+        Ok(())
+    }
+
+    /// The watchers of a call, told of nothing.
+    pub fn watching(&self, alloc: Global) -> Result<Vec<Box<dyn Watcher>>, Fault> {
+        let mut watching = Vec::new(alloc);
+        for watcher in self.watchers.as_slice() {
+            watching.push(watcher.make(alloc)?)?;
+        }
+        Ok(watching)
     }
 
     pub fn fail(&mut self, fail: Fail) -> Result<(), Fault> {

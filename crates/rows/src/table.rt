@@ -106,6 +106,7 @@ impl Reader {
                 Ok(())
             }
             Line::Fails(fail) => self.setup()?.fail(fail),
+            Line::Watch(watcher) => self.setup()?.watch(watcher),
             _ => self.read_of_call(line),
         }
     }

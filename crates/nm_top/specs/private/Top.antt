@@ -9,10 +9,12 @@ use Rattle.nm_top.specs.Lines.{PrintsLine}
 use Rattle.nm_top.specs.Replies.{Answers, Breaks, KeepsOthers, Owed}
 use Rattle.nm_top.specs.Answers.{Answer, MayBreak, Due, Ready, Suffices, written_by}
 use Rattle.nm_top.specs.Headline.{Headline}
+use Rattle.nm_top.specs.Watches.{Given}
+use Rattle.nm_top.specs.Heard.{AreTold}
 use Rattle.nm_top.specs.private.Works.{Outside}
 
-pub record Does (words : List (List ℕ)) (before after : Outside) (status : Status) : Type 0 where
-  pub answer : Answers (Answer words) before.files after.files before.given after.given status
+pub record Does (x : Given) (words : List (List ℕ)) (before after : Outside) (status : Status) : Type 0 where
+  pub answer : Answers (Answer x words) before.files after.files before.given after.given status
   pub usage : status ≡ Usage → command_of words ≡ None
   pub no_command : command_of words ≡ None → (status ≡ Usage) ⊎ (status ≡ WriteFault)
   pub absent : status ≡ Absent → Rose before.absents after.absents
@@ -28,11 +30,12 @@ pub record Does (words : List (List ℕ)) (before after : Outside) (status : Sta
   pub no_write_fault : status ≢ WriteFault → after.faults ≡ before.faults
   pub sure : IfSome before.files (λ held. (room : ℕ) → before.room ≡ Some room → Suffices words held room
       → after.writes ≡ before.writes)
-  pub breaks : status ≡ WriteFault → Breaks (Answer words) (MayBreak words) before.reads after.reads before.files
+  pub breaks : status ≡ WriteFault → Breaks (Answer x words) (MayBreak words) before.reads after.reads before.files
       after.files before.given after.given
   pub line : PrintsLine words status before.given after.given
   pub complete : IfSome before.files (λ held. Ready words held
       → Owed Done before.reads after.reads before.writes after.writes before.faults after.faults status)
   pub keeps : KeepsOthers (written_by words) before.files after.files
-  pub headline : IfSome before.files (λ held. Headline words held before.reads after.reads before.writes after.writes
+  pub headline : IfSome before.files (λ held. Headline x words held before.reads after.reads before.writes after.writes
       before.faults after.faults before.given after.given status)
+  pub told : IfSome before.files (λ held. AreTold words held status x)

@@ -16,6 +16,7 @@ use Rattle.nm_top.specs.Replies.{Reply, reply, KeepsOthers}
 use Rattle.nm_top.specs.Demands.{Demand, Fetch, IsMissing, IsPastLimit, IsFetched, refusal_of}
 use Rattle.nm_top.specs.Answers.{CommandAnswer, Demanding, IsReason, IsBroken, IsEnough, demands_of, written_of}
 use Rattle.nm_top.specs.Lines.{MayStopAt}
+use Rattle.nm_top.specs.Watches.{Given}
 
 -- ---- what stops a command
 
@@ -183,10 +184,10 @@ pub record Writes (enough : Files → ℕ → Type 0) (before after : Outside) (
       (λ held. (room : ℕ) → before.room ≡ Some room → enough held room → is_broken work ≡ false)
 
 -- A command was carried out: it did some work that is allowed for the files, where they are told, and told it.
-pub record Carries (command : Command) (before after : Outside) (status : Status) : Type 0 where
+pub record Carries (x : Given) (command : Command) (before after : Outside) (status : Status) : Type 0 where
   pub work : Work
   pub works : IfSome before.files
-      (λ held. Works (CommandAnswer command held) (IsBroken command held) after.files work)
+      (λ held. Works (CommandAnswer x command held) (IsBroken command held) after.files work)
   pub keeps : KeepsOthers (written_of command) before.files after.files
   pub is_work : IsWorkOf command work
   pub absent : BelongsTo (is_absence (work_status work)) before.absents after.absents
