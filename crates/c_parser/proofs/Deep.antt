@@ -22,7 +22,7 @@ use Rattle.c_parser.specs.Expr.{part_of}
 use Rattle.c_lexer.specs.Lexemes.{◌>>=◌}
 use Rattle.c_parser.specs.private.Reader.{ParseGives, OnDeep, Failure, Wrong, TooDeep, Reader, if_found, at_mark, expected, expect}
 use Rattle.c_parser.specs.private.ReadExpr as read
-use Rattle.c_parser.specs.private.ReadExpr.{is_separator, join_at, assignment_at, line_at, suffixes, suffixed, parenthesized, element, argument, arguments_from, call, named_by, primary_by, primary, postfix}
+use Rattle.c_parser.specs.private.ReadExpr.{is_separator, join_at, assignment_at, suffixes, suffixed, parenthesized, element, argument, arguments_from, call, named_by, primary_by, primary, postfix}
 use Rattle.c_parser.specs.private.ReadExpr.{unary, unary_of, joins, choice, choices, assignment, value_of, more, at_level, read_expr}
 use Rattle.c_parser.proofs.Steps.{mark_takes, mark_is, at_mark_some}
 use Rattle.c_parser.proofs.Sound.{Sound, Lower, argument_sound, primary_sound, suffixed_sound, joined_sound, join_found, join_mark, at_level_sound, expr_sound, assignment_found}

@@ -21,13 +21,13 @@ use Rattle.c_parser.specs.Tokens.{follow}
 use Rattle.c_parser.specs.Walk.{Walk, ◌>>◌, stay, mark, key, each, on}
 use Rattle.c_parser.specs.Expr.{fits_at, part_of}
 use Rattle.c_parser.specs.Stmt as tree
-use Rattle.c_parser.specs.Stmt.{StmtPart, ArmPart, highest, is_empty, any_walk, any_height, any_fits, past_int, type_walk, declr_walk, declr_fits, declr_height, vars_walk, vars_fit, vars_height}
-use Rattle.c_parser.specs.Stmt.{value_walk, label_walk, label_fits, label_height, else_walk, else_height, else_fits, else_takes, returned_height, stmt_step, arm_step, stmt_part, arm_part}
+use Rattle.c_parser.specs.Stmt.{StmtPart, ArmPart, highest, is_empty, any_walk, any_height, any_fits, vars_walk, vars_fit, vars_height}
+use Rattle.c_parser.specs.Stmt.{label_walk, label_fits, label_height, returned_height, stmt_step, arm_step, stmt_part, arm_part}
 use Rattle.c_parser.specs.private.Reader.{Failure, Reader, after, expected}
 use Rattle.c_parser.specs.private.ReadExpr.{read_expr}
 use Rattle.c_parser.specs.private.ReadStmt as read
-use Rattle.c_parser.specs.private.ReadStmt.{consed, repeated, separated, some_of, after_key, expect_key, name_by, name_at, found, expect_name, type_by, type_at, is_declr_end, size_of, start_of, declr_end}
-use Rattle.c_parser.specs.private.ReadStmt.{declarator, declarations, no_type, local, locals, condition, present, optional, label_by, label, begins_label, no_label, labels, list_end, leaf, returned, run}
+use Rattle.c_parser.specs.private.ReadStmt.{some_of, expect_key, found, type_by, type_at}
+use Rattle.c_parser.specs.private.ReadStmt.{locals, condition, optional, begins_label, labels, list_end, leaf, returned, run}
 use Rattle.c_parser.specs.private.ReadStmt.{statements, otherwise, block, branch, whiled, done, counted, arm, arms, switched, stmt_by, stmt, read_stmt}
 use Rattle.c_parser.proofs.Steps.{marked, and_true, then_some, on_then}
 use Rattle.c_parser.proofs.Spells.{then_walk}

@@ -22,8 +22,8 @@ use Rattle.c_parser.specs.Tokens.{is_key, mark_level, follow}
 use Rattle.c_parser.specs.Walk.{Walk, ◌>>◌, stay, mark, key, named, each, commas, listed, on}
 use Rattle.c_parser.specs.Expr.{fits_at, part_of}
 use Rattle.c_parser.specs.Stmt as tree
-use Rattle.c_parser.specs.Stmt.{StmtPart, ArmPart, highest, is_empty, any_walk, any_height, any_fits, past_int, type_walk, declr_walk, declr_fits, declr_height, vars_walk, vars_fit, vars_height}
-use Rattle.c_parser.specs.Stmt.{value_walk, label_walk, label_fits, label_height, else_walk, else_height, else_fits, else_takes, returned_height, stmt_step, arm_step, stmt_part, arm_part}
+use Rattle.c_parser.specs.Stmt.{highest, is_empty, any_walk, any_height, any_fits, past_int, type_walk, declr_walk, declr_height, vars_walk, vars_fit, vars_height}
+use Rattle.c_parser.specs.Stmt.{value_walk, label_walk, label_fits, label_height}
 use Rattle.c_lexer.specs.Lexemes.{◌>>=◌}
 use Rattle.c_parser.specs.private.Reader.{Failure, Wrong, Reader, if_found, at_mark, expect, expected}
 use Rattle.c_parser.specs.private.ReadExpr.{read_expr}

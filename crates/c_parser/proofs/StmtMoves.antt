@@ -20,8 +20,8 @@ use Rattle.c_parser.specs.Tokens.{is_key, is_nesting_mark, is_nesting_key, is_ne
 use Rattle.c_parser.specs.Walk.{Walk, ◌>>◌, stay, nowhere, mark, key, named, each, commas, listed, on}
 use Rattle.c_parser.specs.Expr.{part_of}
 use Rattle.c_parser.specs.Stmt as tree
-use Rattle.c_parser.specs.Stmt.{StmtPart, ArmPart, highest, is_empty, any_walk, any_height, past_int, type_walk, declr_walk, declr_height, vars_walk, vars_height, value_walk, label_walk, label_height}
-use Rattle.c_parser.specs.Stmt.{else_walk, else_height, returned_height, stmt_step, arm_step, stmt_part, arm_part}
+use Rattle.c_parser.specs.Stmt.{StmtPart, ArmPart, highest, any_walk, any_height, past_int, type_walk, declr_walk, declr_height, vars_walk, vars_height, value_walk, label_walk, label_height}
+use Rattle.c_parser.specs.Stmt.{else_walk, else_height, returned_height, arm_step, stmt_part, arm_part}
 use Rattle.c_parser.proofs.Steps.{then_some, on_then, named_some}
 use Rattle.c_parser.proofs.Nesting.{costs_token, costs_any, costs_mark, costs_expr}
 use Rattle.c_parser.proofs.Shorter.{takes_mark, takes_name, takes_expr}

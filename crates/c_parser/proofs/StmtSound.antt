@@ -28,7 +28,7 @@ use Rattle.c_parser.specs.Walk.{Walk, ◌>>◌, stay, past, mark, key, named, ea
 use Rattle.c_parser.specs.Expr.{fits_at, part_of}
 use Rattle.c_parser.specs.Stmt as tree
 use Rattle.c_parser.specs.Stmt.{StmtPart, ArmPart, highest, is_empty, any_walk, any_height, any_fits, past_int, type_walk, declr_walk, declr_fits, declr_height, vars_walk, vars_fit, vars_height}
-use Rattle.c_parser.specs.Stmt.{value_walk, label_walk, label_fits, label_height, else_walk, else_height, else_fits, returned_height, stmt_step, arm_step, stmt_part, arm_part}
+use Rattle.c_parser.specs.Stmt.{label_walk, label_fits, label_height, returned_height, stmt_step, arm_step, stmt_part, arm_part}
 use Rattle.c_lexer.specs.Lexemes.{◌>>=◌}
 use Rattle.c_parser.specs.private.Reader.{Failure, Wrong, TooDeep, Reader, if_found, at_mark, after, expected}
 use Rattle.c_parser.specs.private.ReadExpr.{line_at, read_expr}

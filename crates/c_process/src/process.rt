@@ -86,7 +86,8 @@ impl<'c> CProc<'c> {
 
     // The line of the innermost frame, or without one that of `main`'s name.
     fn line_of_frame(&self) -> u32
-        ensures { result ≡ line_in (state_of self.now.machine.value []).frames (main_line_of (seen_code self.now.code.now)) }
+        ensures { result ≡ line_in (state_of self.now.machine.value []).frames
+            (main_line_of (seen_code self.now.code.now)) }
     {
         if self.machine.frame_count() == 0 {
             self.code.main_line()

@@ -9,7 +9,7 @@ use Rattle.nm_base.specs.declared.kind.Kind.{Kind}
 use Rattle.nm_base.specs.declared.kind.Kind.TheVariants.{Sent, Accepted}
 use Rattle.nm_base.specs.Fitting.{none, more}
 use Rattle.nm_base.specs.Message.{Message}
-use Rattle.nm_base.specs.Scripts.{Next, Goes, Script, Step, Made, Took, kind_in, message_in, next_after, StepFits, IsHistory, is_send, is_last, IsLawful}
+use Rattle.nm_base.specs.Scripts.{Goes, Step, Made, Took, kind_in, message_in, next_after, StepFits, IsHistory, is_send, is_last, IsLawful}
 use Rattle.nm_base.specs.Scripts as scripts
 use Rattle.c_tree.specs.State.{State, Able, Wants, Over, Outcome, Done, Stopped}
 use Rattle.c_tree.specs.Laws.{AbleGoesOn, HistoriesArePlayed, ScriptsAreLawful}

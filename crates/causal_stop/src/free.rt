@@ -32,9 +32,11 @@ impl Free {
     pub fn take_in(&mut self, e: &Event)
         requires process { e.now.proc.no < MAX_PROCESSES }
         requires sender { IsFromProcess (taken_of e.now) }
-        ensures events { (q : ℕ) → let free = is_free (slice_index self.old.events) (slice_index self.old.letters) e.now in
+        ensures events { (q : ℕ)
+            → let free = is_free (slice_index self.old.events) (slice_index self.old.letters) e.now in
             slice_index self.new.events q ≡ events_with free (slice_index self.old.events) e.now q }
-        ensures letters { (q : ℕ) → let free = is_free (slice_index self.old.events) (slice_index self.old.letters) e.now in
+        ensures letters { (q : ℕ)
+            → let free = is_free (slice_index self.old.events) (slice_index self.old.letters) e.now in
             slice_index self.new.letters q ≡ letters_sent free (slice_index self.old.letters) (letter_of e.now) q }
     {
         if !self.has_free(e) {

@@ -35,9 +35,11 @@ impl Needs {
     pub fn take_in(&mut self, e: &Event)
         requires process { e.now.proc.no < MAX_PROCESSES }
         requires sender { IsFromProcess (taken_of e.now) }
-        ensures events { (q : ℕ) → let needed = is_needed (slice_index self.old.events) (slice_index self.old.letters) e.now in
+        ensures events { (q : ℕ)
+            → let needed = is_needed (slice_index self.old.events) (slice_index self.old.letters) e.now in
             slice_index self.new.events q ≡ events_with needed (slice_index self.old.events) e.now q }
-        ensures letters { (q : ℕ) → let needed = is_needed (slice_index self.old.events) (slice_index self.old.letters) e.now in
+        ensures letters { (q : ℕ)
+            → let needed = is_needed (slice_index self.old.events) (slice_index self.old.letters) e.now in
             slice_index self.new.letters q ≡ letters_with needed (slice_index self.old.letters) (taken_of e.now) q }
     {
         if !self.needs(e) {

@@ -23,7 +23,8 @@ IsReceivedAt E id None = IsTaken E id → ⊥
 IsReceivedAt E id (Some number) = (b : Event) × (set : ℕ) × Accepts E b set id × (receive_number E b ≡ number)
 
 -- w tells of its letter where it went and where it was received, which receive was the last that could have taken it,
--- and the turns: those of the two pasts without that receive, in the list's order, and last the receive with this letter
+-- and the turns: those of the two pasts without that receive, in the list's order, and last the receive with this
+-- letter
 pub record IsCertificate (M : ℕ) (E : List Event) (w : Witness) : Type 0 where
   pub letter : Message
   pub named : letter.id ≡ w.id

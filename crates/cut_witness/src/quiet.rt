@@ -112,7 +112,8 @@ fn quiet_taken(
     e: &Event,
 ) -> Option<LetterId>
     ensures { (E : List Event) (i : ℕ) → Sound mask E → slice_get E i ≡ Some e.now
-        → ArePosts E (get same_name posts.now) → AreLast (take i E) (part_of last.now) → AreTaken E (get same_lane lanes.now) → TellsQuiet mask E result }
+        → ArePosts E (get same_name posts.now) → AreLast (take i E) (part_of last.now)
+        → AreTaken E (get same_lane lanes.now) → TellsQuiet mask E result }
 {
     let id = taken_at(e)?;
     let post = post_of(posts, id)?;

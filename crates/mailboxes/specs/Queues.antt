@@ -30,8 +30,10 @@ pub record Chain (slots : List Slot) (next : List ℕ) : Type 0 where
   pub many : length next ≡ length slots
   pub forward : (i : ℕ) → i < length slots → i < at next i
   pub ends : (i : ℕ) → i < length slots → (at next i < length slots) ⊎ (no_place ≤ at next i)
-  pub same : (i : ℕ) (s t : Slot) → slice_get slots i ≡ Some s → slice_get slots (at next i) ≡ Some t → queue_of t.letter ≡ queue_of s.letter
-  pub between : (i j : ℕ) (s t : Slot) → slice_get slots i ≡ Some s → i < j → j < at next i → slice_get slots j ≡ Some t → queue_of t.letter ≡ queue_of s.letter → ⊥
+  pub same : (i : ℕ) (s t : Slot) → slice_get slots i ≡ Some s → slice_get slots (at next i) ≡ Some t
+      → queue_of t.letter ≡ queue_of s.letter
+  pub between : (i j : ℕ) (s t : Slot) → slice_get slots i ≡ Some s → i < j → j < at next i
+      → slice_get slots j ≡ Some t → queue_of t.letter ≡ queue_of s.letter → ⊥
 
 -- the place i of the queue was reached, or its end, and all its slots before i fail the test
 pub record Reached (slots : List Slot) (test : Slot → Bool) (queue i : ℕ) : Type 0 where
@@ -44,7 +46,8 @@ pub record Tails (slots : List Slot) (next tails : List ℕ) : Type 0 where
   pub ends : (q : ℕ) → (at tails q < length slots) ⊎ (no_place ≤ at tails q)
   pub here : (q : ℕ) (s : Slot) → slice_get slots (at tails q) ≡ Some s → queue_of s.letter ≡ q
   pub end : (q : ℕ) → at tails q < length slots → no_place ≤ at next (at tails q)
-  pub last : (i : ℕ) (s : Slot) → slice_get slots i ≡ Some s → (at tails (queue_of s.letter) ≡ i) ⊎ (at next i < length slots)
+  pub last : (i : ℕ) (s : Slot) → slice_get slots i ≡ Some s
+      → (at tails (queue_of s.letter) ≡ i) ⊎ (at next i < length slots)
 
 pub record Linked (slots : List Slot) (next heads tails : List ℕ) : Type 0 where
   pub chain : Chain slots next

@@ -55,12 +55,15 @@ pub trait Mail: Sized + Drop {
     /// The number of free letters that wait for this process and that its receive of this number,
     /// from 0, with this set of channels may accept.
     fn count<G: Gate>(&self, dest: ProcNo, set: u32, receive: u32, gate: &G) -> u32
-        ensures { result ≡ length (allowed (ordered self.now) (G.lets gate.now dest.no receive) dest.no set (letters self.now)) };
+        ensures { result ≡ length
+            (allowed (ordered self.now) (G.lets gate.now dest.no receive) dest.no set (letters self.now)) };
 
     /// The name of the k-th of these letters, from 0, in the order of posting.
     fn kth<G: Gate>(&self, dest: ProcNo, set: u32, receive: u32, gate: &G, k: u32) -> LetterId
-        requires { k < length (allowed (ordered self.now) (G.lets gate.now dest.no receive) dest.no set (letters self.now)) }
-        ensures { let mine = allowed (ordered self.now) (G.lets gate.now dest.no receive) dest.no set (letters self.now) in
+        requires { k < length
+            (allowed (ordered self.now) (G.lets gate.now dest.no receive) dest.no set (letters self.now)) }
+        ensures { let mine = allowed (ordered self.now) (G.lets gate.now dest.no receive) dest.no set
+            (letters self.now) in
             slice_get (map (λ l. l.id) mine) k ≡ Some result };
 
     /// The name of the first of these letters, if there is one. It needs no count.
@@ -71,7 +74,8 @@ pub trait Mail: Sized + Drop {
         receive: u32,
         gate: &G,
     ) -> Option<LetterId>
-        ensures { let mine = allowed (ordered self.now) (G.lets gate.now dest.no receive) dest.no set (letters self.now) in
+        ensures { let mine = allowed (ordered self.now) (G.lets gate.now dest.no receive) dest.no set
+            (letters self.now) in
             slice_get (map (λ l. l.id) mine) 0 ≡ result };
 
     /// Whether no letter of the same sender, to the same process on the same channel, waits before

@@ -119,7 +119,8 @@ fn link(next: &mut Vec<usize>, heads: &mut [usize], tails: &mut [usize], place: 
     requires head { queue < length heads.old }
     requires tail { queue < length tails.old }
     ensures next_here { at tails.old queue < place → at next.new.items (at tails.old queue) ≡ place }
-    ensures next_there { (i : ℕ) → (at tails.old queue < place → i ≡ at tails.old queue → ⊥) → at next.new.items i ≡ at next.old.items i }
+    ensures next_there { (i : ℕ) → (at tails.old queue < place → i ≡ at tails.old queue → ⊥)
+        → at next.new.items i ≡ at next.old.items i }
     ensures many { length next.new.items ≡ length next.old.items }
     ensures room { vec_capacity next.new ≡ vec_capacity next.old }
     ensures head_here { at heads.new queue ≡ min (at heads.old queue) place }
@@ -225,18 +226,25 @@ impl Queues {
         );
     }
 
-    /// Makes room for one more letter.
+    /// Makes room for one more letter, and for as many as there are queues where there was none: few
+    /// letters that wait then take no more memory.
     pub(crate) fn reserve(&mut self) -> Result<(), WantOfMemory>
         ensures same { self.new.slots ≡ self.old.slots }
         ensures room { OnOk result (0 < self.new.room) }
     {
-        self.slots.reserve(1).map_err(|_| WantOfMemory)?;
-        self.next.reserve(1).map_err(|_| WantOfMemory)
+        let places = if self.slots.capacity() == 0 {
+            QUEUES
+        } else {
+            1
+        };
+        self.slots.reserve(places).map_err(|_| WantOfMemory)?;
+        self.next.reserve(places).map_err(|_| WantOfMemory)
     }
 
     /// Puts a letter last. It takes no memory where there is room.
     pub(crate) fn push(&mut self, letter: Letter) -> Result<(), WantOfMemory>
-        ensures pushed { OnOk result (self.new.slots ≡ self.old.slots ++ record { letter = letter; waits = true } ∷ []) }
+        ensures pushed { OnOk result
+            (self.new.slots ≡ self.old.slots ++ record { letter = letter; waits = true } ∷ []) }
         ensures refused { OnErr result (self.new.slots ≡ self.old.slots) }
         ensures room { 0 < self.old.room → IsOk result }
     {

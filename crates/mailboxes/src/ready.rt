@@ -67,7 +67,8 @@ fn first_of_queue<G: Gate>(
 ) -> usize
     requires queued { Queued slots.now next.now heads.now }
     requires queue { queue < 1024 }
-    ensures reached { Reached slots.now (is_ready mask (G.lets gate.now dest.no receive) dest.no set slots.now) queue result }
+    ensures reached { Reached slots.now
+        (is_ready mask (G.lets gate.now dest.no receive) dest.no set slots.now) queue result }
     ensures ready { (s : Slot) → slice_get slots.now result ≡ Some s
         → is_ready mask (G.lets gate.now dest.no receive) dest.no set slots.now s ≡ true }
 {
@@ -123,7 +124,8 @@ pub(crate) fn count_ready<G: Gate>(
     gate: &G,
 ) -> u32
     requires queued { Queued slots.now next.now heads.now }
-    ensures { result ≡ length (filter (is_ready mask (G.lets gate.now dest.no receive) dest.no set slots.now) slots.now) }
+    ensures { result ≡ length
+        (filter (is_ready mask (G.lets gate.now dest.no receive) dest.no set slots.now) slots.now) }
 {
     let mut count = 0;
     for i in 0..slots.len() {
@@ -148,7 +150,8 @@ pub(crate) fn kth_ready<G: Gate>(
     k: u32,
 ) -> LetterId
     requires queued { Queued slots.now next.now heads.now }
-    requires below { k < length (filter (is_ready mask (G.lets gate.now dest.no receive) dest.no set slots.now) slots.now) }
+    requires below { k < length
+        (filter (is_ready mask (G.lets gate.now dest.no receive) dest.no set slots.now) slots.now) }
     ensures { let ready = filter (is_ready mask (G.lets gate.now dest.no receive) dest.no set slots.now) slots.now in
         slice_get (map (λ s. s.letter.id) ready) k ≡ Some result }
 {

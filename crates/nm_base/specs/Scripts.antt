@@ -28,7 +28,15 @@ message_sent me kind = None
 -- that letter, before it is posted
 abbrev pub letter_made : ProcNo → Kind → Option Letter
 letter_made me (Sent number dest chan len words) =
-    Some record { id = record { sender = me; number = number }; dest = dest; chan = chan; len = len; words = words; posted = 0; stamp = record { parts = replicate 32 0 } }
+    Some record {
+      id = record { sender = me; number = number };
+      dest = dest;
+      chan = chan;
+      len = len;
+      words = words;
+      posted = 0;
+      stamp = record { parts = replicate 32 0 };
+    }
 letter_made me kind = None
 
 -- an event of a history. An Accepted comes with its letter
@@ -74,8 +82,12 @@ pub record IsLawful (s : Script) : Type 0 where
   -- what it does by itself is no receive
   pub no_receive : (h : List Step) (set : ℕ) (id : LetterId) → IsHistory s h → next_after s h ≢ Goes (Accepted set id)
   -- its sends are numbered from 0 in order
-  pub numbered : (h : List Step) (number : ℕ) (dest : ProcNo) (chan len : ℕ) (words : List ℕ) → IsHistory s h → next_after s h ≡ Goes (Sent number dest chan len words) → number ≡ length (filter (λ step. is_send (kind_in step)) h)
+  pub numbered : (h : List Step) (number : ℕ) (dest : ProcNo) (chan len : ℕ) (words : List ℕ) → IsHistory s h
+      → next_after s h ≡ Goes (Sent number dest chan len words)
+      → number ≡ length (filter (λ step. is_send (kind_in step)) h)
   -- each send has a channel from 0 to 31 and 1 to 8 words
-  pub sized : (h : List Step) (number : ℕ) (dest : ProcNo) (chan len : ℕ) (words : List ℕ) → IsHistory s h → next_after s h ≡ Goes (Sent number dest chan len words) → (chan < 32) × (0 < len) × (len ≤ 8)
+  pub sized : (h : List Step) (number : ℕ) (dest : ProcNo) (chan len : ℕ) (words : List ℕ) → IsHistory s h
+      → next_after s h ≡ Goes (Sent number dest chan len words) → (chan < 32) × (0 < len) × (len ≤ 8)
   -- nothing follows Ended or Faulted
-  pub ends : (h : List Step) (step : Step) → IsHistory s h → Contains h step → is_last (kind_in step) ≡ true → next_after s h ≡ Over
+  pub ends : (h : List Step) (step : Step) → IsHistory s h → Contains h step → is_last (kind_in step) ≡ true
+      → next_after s h ≡ Over

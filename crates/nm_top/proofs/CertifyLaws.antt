@@ -42,7 +42,7 @@ use Rattle.nm_top.specs.declared.certify.Halt.{Halt}
 use Rattle.nm_top.specs.declared.certify.Halt.TheVariants.{Write, Memory}
 use Rattle.nm_top.specs.Certifying.{Certifies, AreCertified, none, more}
 use Rattle.nm_top.specs.Finishing.{finished, entries_of}
-use Rattle.nm_top.specs.private.Works.{Work, Whole, Refusing, Short, Broken, Tells, work_of}
+use Rattle.nm_top.specs.private.Works.{Work, Whole, Refusing, Ending, Short, Broken, Tells, work_of}
 use Rattle.nm_top.specs.private.Certifications.{Given, GivenPart, PutsCertificates}
 use Rattle.nm_top.specs.private.Tellings.{Told, AreCertificates, IsCertifyWork, IsStuckStop}
 
@@ -320,6 +320,7 @@ module _ (p : Program) (t : Content) where
         }
         by (Short text) is tells = record { work = Short text; is = inr is; tells = tells }
         by (Refusing r) is tells = absurd is
+        by (Ending text r) is tells = absurd is
         by Broken is tells = absurd is
 
   module _ {P M : Type 0} (stands_for : P → Standing) (new : Replaying P M) where
@@ -360,3 +361,5 @@ module _ (p : Program) (t : Content) where
         by (stops.Refused (refusals.OtherProgram of_trace of_file)) stuck tells h = absurd stuck
         by (stops.Refused (refusals.Stopped turns)) stuck tells h = absurd stuck
         by (stops.Refused (refusals.NotItsTrace letter)) stuck tells h = absurd stuck
+        by (stops.Refused refusals.InputFault) stuck tells h = absurd stuck
+        by (stops.Refused refusals.InputFull) stuck tells h = absurd stuck

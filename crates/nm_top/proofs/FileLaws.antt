@@ -109,6 +109,8 @@ module _ (demand : Demand) (held : Files) (fetch : Fetch) (is : fetch_of demand 
   unfetched_stops (Refused (refusals.Stuck n events counts)) h = absurd h
   unfetched_stops (Refused (refusals.Stopped turns)) h = absurd h
   unfetched_stops (Refused (refusals.NotItsTrace letter)) h = absurd h
+  unfetched_stops (Refused refusals.InputFault) h = absurd h
+  unfetched_stops (Refused refusals.InputFull) h = absurd h
   unfetched_stops Memory h = tt
 
   -- its bytes don't meet it

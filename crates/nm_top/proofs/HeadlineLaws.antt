@@ -1,8 +1,8 @@
 -- What the commands on a trace say of the run that was recorded.
 use Rattle.std.proofs.Common.{◌≡◌, ◌≢◌, ℕ, List, [], ◌∷◌, ◌++◌, length, map, true, Option, None, Some, IfSome, MatchOption, inl, inr, sym, ap, ◌∙◌, subst, arith}
-use Rattle.std.specs.Prelude.{IsSomeAnd, nat_le}
+use Rattle.std.specs.Prelude.{IsSomeAnd, nat_le, ◌⊎◌}
 use Rattle.std.specs.Io.KnownBytes.{Appends}
-use Rattle.std.proofs.lemmas.Bool.{le-leb}
+use Rattle.std.proofs.lemmas.Bool.{le-leb, false≢true}
 use Rattle.nm_base.specs.declared.letter.LetterId.{LetterId}
 use Rattle.nm_base.specs.Scripts.{Script}
 use Rattle.nm_outside.specs.Files.{Files}
@@ -28,21 +28,28 @@ use Rattle.replay_core.proofs.ReplayLaws.{all_from}
 use Rattle.report.specs.Texts.{usage_line, turns_line, certificates_line}
 use Rattle.report.proofs.FollowsFacts.{follows, full}
 use Rattle.nm_top.specs.declared.status.Status.{Status}
-use Rattle.nm_top.specs.declared.status.Status.TheVariants.{Done, Usage}
-use Rattle.nm_top.specs.Commands.{Command, Run, Record, Replay, Finish, Certify, Upgrade, command_of}
+use Rattle.nm_top.specs.declared.status.Status.TheVariants.{Done, Usage, ReadFault, InputFull, WantOfMemory}
+use Rattle.nm_top.specs.Commands.{Command, Run, Record, Replay, Finish, Certify, Debug, Upgrade, command_of}
+use Rattle.nm_top.specs.Statuses.{is_of_files}
 use Rattle.nm_top.specs.Schedules.{IsSchedule, seen_turn}
-use Rattle.nm_top.specs.Demands.{Demand, ProgramText, ScheduleText, TraceText, SameProgram, TraceSchedule, Finishes, Matches, HoldsIn, schedule_file, refusal_of, IsMet, AreMet, Admits, FailsAs, missing, too_long, refused}
+use Rattle.nm_top.specs.Demands.{Demand, ProgramText, ScheduleText, TraceText, SameProgram, TraceSchedule, Finishes, Matches, HoldsIn, schedule_file, IsMet, AreMet, Admits, FailsAs}
 use Rattle.nm_top.specs.Finishing.{replayed, finished, replay_text, finish_text, entries_of}
 use Rattle.nm_top.specs.Replies.{Reply, Says, Answers, Owed}
+use Rattle.nm_top.specs.Watches.{Call, Given, Hear, watch_lines}
 use Rattle.nm_top.specs.Replays.{ReplayPrints, FinishPrints}
 use Rattle.nm_top.specs.Certifying.{Certifies, AreCertified, CertifyPrints}
 use Rattle.nm_top.specs.Certifying as certifying
-use Rattle.nm_top.specs.Answers.{Answer, CommandAnswer, Demanding, IsDone, Carried, Ready, demands_of, pair_demands}
-use Rattle.nm_top.specs.Headline.{IsRecording, recorded, IsWitnessed, AreWitnessed, ShowsReplay, ShowsRun, ShowsRaces, Shows, HoldsRecording, Headline}
+use Rattle.nm_top.specs.Answers.{Answer, CommandAnswer, Demanding, IsDone, Carried, Ready, IsEnd, EndsWith, demands_of, pair_demands}
+use Rattle.nm_top.specs.Headline.{IsRecording, recorded, IsWitnessed, AreWitnessed, ShowsReplay, ShowsRun, ShowsSession, SessionsFollow, ShowsRaces, Shows, HoldsRecording, Headline}
 use Rattle.nm_top.specs.Headline as headline
 use Rattle.nm_top.proofs.FileLaws.{held_more, one_replay}
-use Rattle.nm_top.proofs.DueLaws.{fails, read_status, short_ends}
+use Rattle.nm_top.proofs.DueLaws.{fails, fails_of_files, read_status, short_ends, ended_status}
 use Rattle.nm_top.proofs.PairLaws.{pair_met}
+use Rattle.nm_top.proofs.SessionLaws.{talked_replays}
+use Rattle.debugger.specs.Sessions.{first_session}
+use Rattle.nm_top.specs.Debugging.{Talks}
+use Rattle.nm_top.specs.Debugs.{Debugs}
+use Rattle.nm_top.specs.declared.talk.End.TheVariants.{Over}
 
 -- ---- a recorded run and its replays
 
@@ -81,24 +88,44 @@ module _ (held : Files) (program trace : List ℕ) (h : IsRecording held program
   entries = same_entries_of s T (recorded h) (finished p t).events full_replay
 
   -- what was printed of the files' program and trace is said of the recording's
-  shows_replay : (schedule printed : List ℕ) → ReplayPrints program trace schedule held printed → ShowsReplay h schedule printed
-  shows_replay schedule printed k =
+  shows_replay : (x : Given) (schedule printed : List ℕ) → ReplayPrints x program trace schedule held printed → ShowsReplay x h schedule printed
+  shows_replay x schedule printed k =
       let same = one_replay held program trace k.of_program p k.content t k.has h.has in
       record {
         turns = k.turns;
         has_schedule = subst (λ (u : Content). HoldsIn held (λ text. IsSchedule u.n text k.turns) (schedule_file schedule)) same.1 k.has_schedule;
         follows = follows p t.n T (recorded h) (replayed p t k.turns) is_recorded (replay_of_replays s lawful T (map seen_turn k.turns));
-        is = k.is ∙ ap (λ (q : Program). replay_text q k.content k.turns) same.0 ∙ ap (λ (u : Content). replay_text p u k.turns) same.1;
+        hear = subst (λ (u : Content). Hear (replayed p u k.turns) x) same.1 (subst (λ (q : Program). Hear (replayed q k.content k.turns) x) same.0 k.hear);
+        is = k.is ∙ ap (λ (q : Program). replay_text q k.content k.turns ++ watch_lines 0 x.told) same.0 ∙ ap (λ (u : Content). replay_text p u k.turns ++ watch_lines 0 x.told) same.1;
       }
 
-  shows_run : (printed : List ℕ) → FinishPrints program trace held printed → ShowsRun h printed
-  shows_run printed k =
+  -- a session's replies to lines were printed
+  shows_session : (x : Call) (printed : List ℕ) → Debugs x program trace Over held printed → ShowsSession x h printed
+  shows_session x printed k =
+      let same = one_replay held program trace k.of_program p k.content t k.has h.has in
+      record {
+        lines = k.session.lines;
+        last = k.session.last;
+        talks = subst (λ (u : Content). Talks p (seen_trace u) first_session x.watchers.watch k.session.lines printed k.session.last x.watchers.told) same.1
+            (subst (λ (q : Program). Talks q (seen_trace k.content) first_session x.watchers.watch k.session.lines printed k.session.last x.watchers.told) same.0 k.session.talks);
+      }
+
+  sessions_follow : (x : Call) → SessionsFollow x h
+  sessions_follow x = λ some text s watch talks. follows p t.n T (recorded h) s.run is_recorded (talked_replays p t x.watchers.watch some text s watch talks)
+
+  shows_run : (x : Given) (printed : List ℕ) → FinishPrints x program trace held printed → ShowsRun x h printed
+  shows_run x printed k =
       let same = one_replay held program trace k.of_program p k.content t k.has h.has in
       record {
         turns = (finished p t).turns;
         idle = (finished p t).idle;
-        is = k.is ∙ ap (λ (q : Program). finish_text q k.content) same.0 ∙ ap (λ (u : Content). finish_text p u) same.1
-            ∙ ap (λ (text : List ℕ). text ++ turns_line (finished p t).turns (finished p t).idle) (full p t.n T (recorded h) (finished p t).events is_recorded finish_is_replay counts_reached);
+        made = (finished p t).events;
+        follows = follows p t.n T (recorded h) (finished p t).events is_recorded finish_is_replay;
+        whole = λ q. counts_reached q ∙ h.is_trace.counts q;
+        hear = subst (λ (u : Content). Hear (finished p u).events x) same.1 (subst (λ (q : Program). Hear (finished q k.content).events x) same.0 k.hear);
+        is = k.is ∙ ap (λ (q : Program). finish_text q k.content ++ watch_lines 0 x.told) same.0 ∙ ap (λ (u : Content). finish_text p u ++ watch_lines 0 x.told) same.1
+            ∙ ap (λ (text : List ℕ). text ++ turns_line (finished p t).turns (finished p t).idle ++ watch_lines 0 x.told)
+            (full p t.n T (recorded h) (finished p t).events is_recorded finish_is_replay counts_reached);
       }
 
   witnessed : (letter : LetterId) (w : Witness) → Certifies p t.n t.mask (finished p t).events letter w → IsWitnessed p t.n t.mask (recorded h) letter w
@@ -145,13 +172,14 @@ module _ (held : Files) (program trace : List ℕ) (h : IsRecording held program
   scheduled schedule turns k =
       held_more held (schedule_file schedule) (λ text. IsSchedule t.n text turns) (Admits (TraceSchedule trace schedule) held) (λ text r. (t, turns, h.has.has_trace, r)) k
 
-module _ (held : Files) where
-  shown : (command : Command) (printed : List ℕ) (left : Files) → Carried command held printed left → Shows command held printed
+module _ (x : Call) (held : Files) where
+  shown : (command : Command) (printed : List ℕ) (left : Files) → Carried x command held printed left → Shows x command held printed
   shown (Run program n schedule mask) printed left k = tt
   shown (Record program n schedule trace version mask) printed left k = tt
-  shown (Replay program trace schedule) printed left k = λ h. shows_replay held program trace h schedule printed k.0
-  shown (Finish program trace) printed left k = λ h. shows_run held program trace h printed k.0
+  shown (Replay program trace schedule) printed left k = λ h. shows_replay held program trace h x.watchers schedule printed k.0
+  shown (Finish program trace) printed left k = λ h. shows_run held program trace h x.watchers printed k.0
   shown (Certify program trace) printed left k = λ h. shows_races held program trace h printed k.0
+  shown (Debug program trace) printed left k = λ h. shows_session held program trace h x printed k.0
   shown (Upgrade trace new) printed left k = tt
 
   ready : (command : Command) → HoldsRecording command held → AreMet (demands_of command) held
@@ -162,22 +190,12 @@ module _ (held : Files) where
   ready (Finish program trace) k = met_behind held program trace k (Finishes program trace ∷ []) (finishes held program trace k, tt)
   ready (Certify program trace) k =
       met_behind held program trace k (Finishes program trace ∷ Matches program trace ∷ []) (finishes held program trace k, (matches held program trace k, tt))
+  ready (Debug program trace) k = met_behind held program trace k [] tt
   ready (Upgrade trace new) k = absurd k
 
   -- a reply that is done is that of a command that was carried out
-  refusal_no_done : (demand : Demand) → refusal_of demand ≢ Done
-  refusal_no_done (ProgramText name) e = absurd cc
-  refusal_no_done (ScheduleText name n) e = absurd cc
-  refusal_no_done (TraceText name) e = absurd cc
-  refusal_no_done (SameProgram program trace) e = absurd cc
-  refusal_no_done (TraceSchedule trace name) e = absurd cc
-  refusal_no_done (Finishes program trace) e = absurd cc
-  refusal_no_done (Matches program trace) e = absurd cc
-
   refused_no_done : (demand : Demand) (status : Status) → FailsAs status demand held → status ≢ Done
-  refused_no_done demand status (missing k m) e = let a = sym k ∙ e in absurd cc
-  refused_no_done demand status (too_long k m) e = let a = sym k ∙ e in absurd cc
-  refused_no_done demand status (refused k m) e = refusal_no_done demand (sym k ∙ e)
+  refused_no_done demand status k e = false≢true (ap is_of_files (sym e) ∙ fails_of_files held demand status k)
 
   is_done : (demands : List Demand) (done : Reply → Type 0) (r : Reply) → Demanding demands done held r → r.status ≡ Done → done r
   is_done [] done r h e = h
@@ -185,33 +203,47 @@ module _ (held : Files) where
   is_done (demand ∷ demands) done r (inr (inl h)) e = absurd (refused_no_done demand r.status (fails held demand r h) e)
   is_done (demand ∷ demands) done r (inr (inr h)) e = is_done demands done r h.1 e
 
-  shown_by : (command : Command) (r : Reply) → CommandAnswer command held r → r.status ≡ Done → Shows command held r.printed
+  shown_by : (command : Command) (r : Reply) → CommandAnswer x command held r → r.status ≡ Done → Shows x command held r.printed
   shown_by command r (inl h) e =
-      let k = is_done (demands_of command) (IsDone command held) r h e in
-      subst (Shows command held) (sym (ap (λ (r : Reply). r.printed) k.3)) (shown command k.0 k.1 k.2)
-  shown_by command r (inr h) e = let k = sym (short_ends command held r h) ∙ e in absurd cc
+      let k = is_done (demands_of command) (IsDone x command held) r h e in
+      subst (Shows x command held) (sym (ap (λ (r : Reply). r.printed) k.3)) (shown command k.0 k.1 k.2)
+  shown_by command r (inr (inl h)) e = let k = sym (short_ends x command held r h) ∙ e in absurd cc
+  shown_by command r (inr (inr h)) e = absurd (not_done (ended_status x command held r h))
+    where
+      not_done : (r.status ≡ ReadFault) ⊎ (r.status ≡ InputFull) → ⊥
+      not_done (inl k) = let a = sym k ∙ e in absurd cc
+      not_done (inr k) = let a = sym k ∙ e in absurd cc
 
-  module _ (words : List (List ℕ)) (left : Option Files) (reads reads' writes writes' faults faults' : ℕ) (before after : Option (List ℕ)) (status : Status) where
-    shows : Answers (Answer words) (Some held) left before after status → (command : Command) → command_of words ≡ Some command → status ≡ Done
-        → (text : List ℕ) × Shows command held text × Appends before after text
+  module _ (words : List (List ℕ)) (left : Option Files) (reads reads' takes takes' writes writes' faults faults' : ℕ) (before after : Option (List ℕ)) (status : Status) where
+    shows : Answers (Answer x words) (Some held) left before after status → (command : Command) → command_of words ≡ Some command → status ≡ Done
+        → (text : List ℕ) × Shows x command held text × Appends before after text
     shows (inl k) command is e = let a = sym k ∙ e in absurd cc
     shows (inr a) command is e = (
       a.0.printed,
-      shown_by command a.0 (subst (λ (o : Option Command). MatchOption o (Says held Usage usage_line a.0) (λ c. CommandAnswer c held a.0)) is a.1) (sym a.2.answered ∙ e),
+      shown_by command a.0 (subst (λ (o : Option Command). MatchOption o (Says held Usage usage_line a.0) (λ c. CommandAnswer x c held a.0)) is a.1) (sym a.2.answered ∙ e),
       a.2.printed,
     )
 
-    pub says : Answers (Answer words) (Some held) left before after status → (Ready words held → Owed Done reads reads' writes writes' faults faults' status)
-        → Headline words held reads reads' writes writes' faults faults' before after status
+    pub says : Answers (Answer x words) (Some held) left before after status → (Ready words held → Owed (EndsWith x words held) reads reads' takes takes' writes writes' faults faults' status)
+        → Headline x words held reads reads' takes takes' writes writes' faults faults' before after status
     says answer complete = record {
-      done = λ command is k. complete (subst (λ (o : Option Command). IsSomeAnd o (λ c. AreMet (demands_of c) held)) (sym is) (ready command k));
+      done = λ command is k. ended command is (complete (subst (λ (o : Option Command). IsSomeAnd o (λ c. AreMet (demands_of c) held)) (sym is) (ready command k)));
       shows = shows answer;
+      sessions = λ program trace is h. sessions_follow held program trace h x;
     }
+      where
+        ended : (command : Command) → command_of words ≡ Some command → Owed (EndsWith x words held) reads reads' takes takes' writes writes' faults faults' status
+            → Owed (IsEnd x held command) reads reads' takes takes' writes writes' faults faults' status
+        ended command is f r t w m = by (f r t w m)
+          where
+            by : EndsWith x words held status ⊎ (status ≡ WantOfMemory) → IsEnd x held command status ⊎ (status ≡ WantOfMemory)
+            by (inl k) = inl (subst (λ (o : Option Command). IsSomeAnd o (λ c. IsEnd x held c status)) is k)
+            by (inr k) = inr k
 
 -- where the files are told
-pub says_all : (words : List (List ℕ)) (told left : Option Files) (reads reads' writes writes' faults faults' : ℕ) (before after : Option (List ℕ)) (status : Status)
-    → Answers (Answer words) told left before after status → IfSome told (λ held. Ready words held → Owed Done reads reads' writes writes' faults faults' status)
-    → IfSome told (λ held. Headline words held reads reads' writes writes' faults faults' before after status)
-says_all words None left reads reads' writes writes' faults faults' before after status answer complete = tt
-says_all words (Some held) left reads reads' writes writes' faults faults' before after status answer complete =
-    says held words left reads reads' writes writes' faults faults' before after status answer complete
+pub says_all : (x : Call) (words : List (List ℕ)) (told left : Option Files) (reads reads' takes takes' writes writes' faults faults' : ℕ) (before after : Option (List ℕ)) (status : Status)
+    → Answers (Answer x words) told left before after status → IfSome told (λ held. Ready words held → Owed (EndsWith x words held) reads reads' takes takes' writes writes' faults faults' status)
+    → IfSome told (λ held. Headline x words held reads reads' takes takes' writes writes' faults faults' before after status)
+says_all x words None left reads reads' takes takes' writes writes' faults faults' before after status answer complete = tt
+says_all x words (Some held) left reads reads' takes takes' writes writes' faults faults' before after status answer complete =
+    says x held words left reads reads' takes takes' writes writes' faults faults' before after status answer complete

@@ -14,7 +14,8 @@ use Rattle.nm_top.specs.Programs.{Reads}
 use Rattle.nm_top.specs.Schedules.{IsSchedule}
 use Rattle.nm_top.specs.Replies.{Reply, reply}
 use Rattle.nm_top.specs.Demands.{Demand, ProgramText, ScheduleText, TraceText, SameProgram, TraceSchedule, HoldsIn, HasTrace, HasDigest, AreReplayed, program_file, schedule_file, trace_file, AreMet, Admits}
-use Rattle.nm_top.specs.Finishing.{replay_text}
+use Rattle.nm_top.specs.Finishing.{replayed, replay_text}
+use Rattle.nm_top.specs.Watches.{Call, Hear, watch_lines}
 use Rattle.nm_top.specs.Answers.{CommandAnswer, Demanding, Refuses, missing, too_long, refused, IsReason, IsDone, pair_demands}
 use Rattle.nm_top.specs.private.Works.{Stops, Nothing, IsUnmet}
 use Rattle.nm_top.proofs.FileLaws.{held_more, later_stops, unmet_at_once, same_trace}
@@ -51,11 +52,16 @@ module _ (held : Files) (program trace : List ℕ) (p : Program) (t : Content) (
   pair_stops_later demands Memory k = tt
 
   -- a replay by a schedule was made
-  pub replay_done : (schedule : List ℕ) (turns : List Turn) → HoldsIn held (λ text. IsSchedule t.n text turns) (schedule_file schedule)
-      → CommandAnswer (Replay program trace schedule) held (reply Done (replay_text p t turns) held)
-  replay_done schedule turns k = inl (behind_pair (TraceSchedule trace schedule ∷ []) (IsDone (Replay program trace schedule) held) _ (inr (inr (
+  pub replay_done : (x : Call) (schedule : List ℕ) (turns : List Turn) → HoldsIn held (λ text. IsSchedule t.n text turns) (schedule_file schedule) → Hear (replayed p t turns) x.watchers
+      → CommandAnswer x (Replay program trace schedule) held (reply Done (replay_text p t turns ++ watch_lines 0 x.watchers.told) held)
+  replay_done x schedule turns k heard = inl (behind_pair (TraceSchedule trace schedule ∷ []) (IsDone x (Replay program trace schedule) held) _ (inr (inr (
     held_more held (schedule_file schedule) (λ text. IsSchedule t.n text turns) (Admits (TraceSchedule trace schedule) held) (λ text r. (t, turns, h.has_trace, r)) k,
-    (replay_text p t turns, held, (record { of_program = p; content = t; has = h; turns = turns; has_schedule = k; is = refl }, refl), refl),
+    (
+      replay_text p t turns ++ watch_lines 0 x.watchers.told,
+      held,
+      (record { of_program = p; content = t; has = h; turns = turns; has_schedule = k; hear = heard; is = refl }, refl),
+      refl,
+    ),
   ))))
 
 -- the pair that was read

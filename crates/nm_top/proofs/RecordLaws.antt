@@ -27,8 +27,9 @@ use Rattle.nm_top.specs.Schedules.{IsSchedule}
 use Rattle.nm_top.specs.Replies.{reply, KeepsOthers}
 use Rattle.nm_top.specs.Demands.{ProgramText, ScheduleText, HoldsIn, program_file, schedule_file, Admits}
 use Rattle.nm_top.specs.Recordings.{ToRecord, IsToRecord, recorded_run}
+use Rattle.nm_top.specs.Watches.{Call}
 use Rattle.nm_top.specs.Answers.{CommandAnswer, IsBroken, IsEnough, to_record}
-use Rattle.nm_top.specs.private.Works.{Work, Whole, Refusing, Short, Broken, Works, Counts, IsWorkOf, Tells, Outside, outside, Carries, is_absence, is_fault, is_broken, work_status}
+use Rattle.nm_top.specs.private.Works.{Work, Whole, Refusing, Ending, Short, Broken, Works, Counts, IsWorkOf, Tells, Outside, outside, Carries, is_absence, is_read_fault, is_broken, work_status}
 use Rattle.nm_top.specs.private.Recorded.{IsRecordWork, HasRecorded, recorded_work}
 use Rattle.nm_top.proofs.FileLaws.{held_more, one_text}
 use Rattle.nm_top.proofs.CarryLaws.{nothing_short, stands_still, appends_none}
@@ -74,10 +75,10 @@ module _ (program : List ℕ) (n : ℕ) (schedule trace : List ℕ) (version mas
 
   module _ (p : Program) (digest : List ℕ) (turns : List Turn) where
     -- what was recorded is an answer
-    record_works : (F G : Option Files) (work : Work) → IfSome F (λ held. IsToRecord held words p digest turns) → IsRecordWork words p digest turns F G work
-        → IfSome F (λ held. Works (CommandAnswer command held) (IsBroken command held) G work)
-    record_works None G work has is = tt
-    record_works (Some held) G (Whole text) has is = (
+    record_works : (x : Call) (F G : Option Files) (work : Work) → IfSome F (λ held. IsToRecord held words p digest turns) → IsRecordWork words p digest turns F G work
+        → IfSome F (λ held. Works (CommandAnswer x command held) (IsBroken command held) G work)
+    record_works x None G work has is = tt
+    record_works x (Some held) G (Whole text) has is = (
       insert held trace (spelling is.content),
       is.leaves,
       inl (inr (inr (
@@ -102,12 +103,12 @@ module _ (program : List ℕ) (n : ℕ) (schedule trace : List ℕ) (version mas
         )),
       ))),
     )
-    record_works (Some held) G (Short text) has (inl is) =
-        (held, is.1, subst (λ (t : List ℕ). CommandAnswer command held (reply statuses.WantOfMemory t held)) (sym is.0) (nothing_short command held))
-    record_works (Some held) G (Short text) has (inr is) = (
+    record_works x (Some held) G (Short text) has (inl is) =
+        (held, is.1, subst (λ (t : List ℕ). CommandAnswer x command held (reply statuses.WantOfMemory t held)) (sym is.0) (nothing_short x command held))
+    record_works x (Some held) G (Short text) has (inr is) = (
       insert held trace (spelling is.content),
       is.leaves,
-      inr (
+      inr (inl (
         text,
         insert held trace (spelling is.content),
         inr (record {
@@ -123,10 +124,10 @@ module _ (program : List ℕ) (n : ℕ) (schedule trace : List ℕ) (version mas
           leaves = refl;
         }),
         refl,
-      ),
+      )),
     )
-    record_works (Some held) G Broken has (inl is) = (held, is, inl refl)
-    record_works (Some held) G Broken has (inr is) = (
+    record_works x (Some held) G Broken has (inl is) = (held, is, inl refl)
+    record_works x (Some held) G Broken has (inr is) = (
       insert held trace _,
       is.leaves,
       inr (record {
@@ -142,15 +143,17 @@ module _ (program : List ℕ) (n : ℕ) (schedule trace : List ℕ) (version mas
         leaves = refl;
       }),
     )
-    record_works (Some held) G (Refusing r) has is = absurd is
+    record_works x (Some held) G (Refusing r) has is = absurd is
+    record_works x (Some held) G (Ending text r) has is = absurd is
 
     record_is_work : (F G : Option Files) (work : Work) → IsRecordWork words p digest turns F G work
-        → IsWorkOf command work × (is_absence (work_status work) ≡ false) × (is_fault (work_status work) ≡ false)
+        → IsWorkOf command work × (is_absence (work_status work) ≡ false) × (is_read_fault work ≡ false)
     record_is_work F G (Whole text) is = (tt, refl, refl)
     record_is_work F G (Short text) (inl is) = (inl is.0, refl, refl)
     record_is_work F G (Short text) (inr is) = (inr (is.many, is.is), refl, refl)
     record_is_work F G Broken is = (tt, refl, refl)
     record_is_work F G (Refusing r) is = absurd is
+    record_is_work F G (Ending text r) is = absurd is
 
     record_keeps : (F G : Option Files) (work : Work) → IsRecordWork words p digest turns F G work → KeepsOthers (Some trace) F G
     record_keeps F G (Whole text) is = inr (spelling is.content, is.leaves)
@@ -159,6 +162,7 @@ module _ (program : List ℕ) (n : ℕ) (schedule trace : List ℕ) (version mas
     record_keeps F G Broken (inl is) = inl is
     record_keeps F G Broken (inr is) = inr (_, is.leaves)
     record_keeps F G (Refusing r) is = absurd is
+    record_keeps F G (Ending text r) is = absurd is
 
     record_sure : (F : Option Files) (room : Option ℕ) (broken : Bool) → IfSome F (λ held. IsToRecord held words p digest turns)
         → ((k : ℕ) → IsSome F → room ≡ Some k → 6 * length turns + 256 ≤ k → broken ≡ false)
@@ -169,19 +173,19 @@ module _ (program : List ℕ) (n : ℕ) (schedule trace : List ℕ) (version mas
         sure k refl is (subst (λ (ts : List Turn). 6 * length ts + 256 ≤ k) same fits.enough)
 
     -- what its files hold was read, and it was recorded and told
-    pub recorded : {X : Type 0} (Q : List ℕ → Type 0) (x : X) (before mid after : Outside) (status : Status) → IfSome before.files (λ held. IsToRecord held words p digest turns)
-        → Counts {X = X} Q before.absents mid.absents before.reads mid.reads (Ok x) → mid.files ≡ before.files → mid.writes ≡ before.writes → mid.room ≡ before.room
-        → mid.given ≡ before.given → mid.faults ≡ before.faults → HasRecorded words p digest turns mid after status → Carries command before after status
-    recorded Q x before mid after status has counts files writes room given faults made =
+    pub recorded : {X : Type 0} (x : Call) (Q : List ℕ → Type 0) (found : X) (before mid after : Outside) (status : Status) → IfSome before.files (λ held. IsToRecord held words p digest turns)
+        → Counts {X = X} Q before.absents mid.absents before.reads mid.reads (Ok found) → mid.files ≡ before.files → mid.writes ≡ before.writes → mid.room ≡ before.room
+        → mid.given ≡ before.given → mid.faults ≡ before.faults → HasRecorded words p digest turns mid after status → Carries x command before after status
+    recorded x Q found before mid after status has counts files writes room given faults made =
         let h = subst (λ (o : Outside). HasRecorded words p digest turns o after status) moved made in
         let k = record_is_work before.files after.files h.work h.is in
         record {
           work = h.work;
-          works = record_works before.files after.files h.work has h.is;
+          works = record_works x before.files after.files h.work has h.is;
           keeps = record_keeps before.files after.files h.work h.is;
           is_work = k.0;
           absent = still_at (is_absence (work_status h.work)) before.absents mid.absents after.absents k.1 counts.absent h.same_absents;
-          failed = still_at (is_fault (work_status h.work)) before.reads mid.reads after.reads k.2 counts.failed h.same_reads;
+          failed = still_at (is_read_fault h.work) before.reads mid.reads after.reads k.2 counts.failed h.same_reads;
           writes = record { failed = h.failed; sure = record_sure before.files before.room (is_broken h.work) has h.sure };
           tells = h.tells;
         }

@@ -1,6 +1,6 @@
 -- Replays of a program, turn by turn and finished.
 use Rattle.std.proofs.Common.{◌≡◌, ℕ, ◌+◌, ◌-◌, ◌≤◌, ◌<◌, List, [], ◌∷◌, length, take, Some, refl, sym, ap, ◌∙◌, subst, arith, length-append}
-use Rattle.std.specs.Prelude.{map, slice_get}
+use Rattle.std.specs.Prelude.{map, slice_get, Result, Ok, Err, IfOk, IfErr, OnErr}
 use Rattle.std.proofs.lemmas.List.{take_all}
 use Rattle.std.proofs.lemmas.Option.{slice_get_within}
 use Rattle.nm_base.specs.Scripts.{Script}
@@ -15,21 +15,25 @@ use Rattle.schedules.specs.Bounds.{AreFewTurns}
 use Rattle.event_list.specs.declared.Event.{Event}
 use Rattle.event_list.specs.Traces.{Trace}
 use Rattle.event_list.specs.Turns as turns
-use Rattle.event_list.specs.Turns.{Stays, Went, go, after, replay_of}
+use Rattle.event_list.specs.Turns.{Stays, Went, after}
 use Rattle.trace_file.specs.Content.{Content}
 use Rattle.world.specs.declared.world.Turned.{Turned}
 use Rattle.world.specs.Worlds.{Parts, IsWorldOf}
 use Rattle.world.specs.Outcomes.{Begins, outcome}
 use Rattle.replay_core.specs.Gates.{seen_trace}
-use Rattle.replay_core.specs.Replaying.{Replaying, IsReplayOf, IsSameRun, HasGone}
+use Rattle.replay_core.specs.Replaying.{Replaying, IsReplayOf, IsSameRun, ReplaysAll, HasGone, HasFinished, HasFailed}
+use Rattle.replay_core.specs.declared.finish.Finished.{Finished}
+use Rattle.replay_core.specs.declared.finish.ReplayFault.{ReplayFault}
+use Rattle.replay_core.specs.declared.finish.ReplayFault.TheVariants.{Stuck, Memory}
 use Rattle.c_process.specs.Standing.{IsCodeOf}
 use Rattle.c_process.specs.contracts.script.CProcProc.TheImpl as process
 use Rattle.c_process.specs.declared.process.CProc.{CProc}
 use Rattle.report.specs.Runs.{RunsProgram}
 use Rattle.nm_top.specs.Schedules.{seen_turn}
-use Rattle.nm_top.specs.Finishing.{replayed}
+use Rattle.nm_top.specs.Finishing.{replayed, finished}
 use Rattle.c_process.specs.Begun.{AreBegun}
-use Rattle.nm_top.specs.private.Replaying.{ReplaysProgram, AfterReplay}
+use Rattle.nm_top.specs.private.Replaying.{ReplaysProgram, AfterReplay, HasReplayed, HasFinishedRun}
+use Rattle.nm_top.specs.private.Tellings.{finished_within}
 use Rattle.nm_top.proofs.StartLaws.{begins, runs_program, get_mapped}
 use Rattle.nm_top.proofs.TurnLaws.{replay_more}
 
@@ -88,6 +92,37 @@ module _ {M : Type 0} where
     few = omega (arith, a.few, few);
     within = omega (arith, slice_get_within ts i u at);
   }
+
+  -- memory was refused at a turn
+  pub replay_refused : (start now new : Replaying CProc M) (ts : List Turn) (i idle : ℕ) → AfterReplay start now ts i idle → ReplaysAll process.stands_for-value.it now new
+      → IsSameRun process.origin_of-value.it now new → (p : Program) (t : Content) → ReplaysProgram start p t [] → (many : ℕ) × ReplaysProgram new p t (replayed p t (take many ts))
+  replay_refused start now new ts i idle a refused same p t h =
+      let R = replayed p t (take i ts) in
+      let k = a.run p t h in
+      (i, replay_goes_on now new p t R R k.0 same (refused (script_of p t.n) (seen_trace t) R k.0.replays))
+
+  -- the turns were made, or the first of them
+  pub has_replayed : {E : Type 0} (start now : Replaying CProc M) (ts : List Turn) (r : Result ℕ E)
+      → IfOk r (λ idle. (p : Program) (t : Content) → ReplaysProgram start p t [] → ReplaysProgram now p t (replayed p t ts) × (idle ≡ length ts - length (replayed p t ts)))
+      → OnErr r ((p : Program) (t : Content) → ReplaysProgram start p t [] → (many : ℕ) × ReplaysProgram now p t (replayed p t (take many ts)))
+      → (p : Program) (t : Content) → ReplaysProgram start p t [] → HasReplayed now p t ts r
+  has_replayed start now ts (Ok idle) made began p t h = made p t h
+  has_replayed start now ts (Err e) made began p t h = began p t h
+
+  -- it was finished, or some of that
+  pub has_finished : (start now : Replaying CProc M) (r : Result Finished ReplayFault) → IsSameRun process.origin_of-value.it start now
+      → IfOk r (λ f. (s : ℕ → Script) (T : Trace) (R : List Event) → IsReplayOf process.stands_for-value.it start s T R → HasFinished process.stands_for-value.it now s T R f)
+      → IfErr r (λ fault. (s : ℕ → Script) (T : Trace) (R : List Event) → IsReplayOf process.stands_for-value.it start s T R → HasFailed process.stands_for-value.it now s T R fault)
+      → (p : Program) (t : Content) → ReplaysProgram start p t [] → HasFinishedRun now p t r
+  has_finished start now (Ok round) same ok err p t h =
+      let f = ok (script_of p t.n) (seen_trace t) [] h.replays in
+      (replay_goes_on start now p t [] (finished p t).events h same f.stands, f.reached, f.turns, f.idle)
+  has_finished start now (Err (Stuck counts)) same ok err p t h =
+      let f = err (script_of p t.n) (seen_trace t) [] h.replays in
+      (replay_goes_on start now p t [] (finished p t).events h same f.stands, f.below, f.told)
+  has_finished start now (Err Memory) same ok err p t h =
+      let f = err (script_of p t.n) (seen_trace t) [] h.replays in
+      (f.0, replay_goes_on start now p t [] (finished_within f.0 p t) h same f.1)
 
   -- all turns were made
   pub replay_all : (start now : Replaying CProc M) (ts : List Turn) (i idle : ℕ) → AfterReplay start now ts i idle → i ≡ length ts → (p : Program) (t : Content) → ReplaysProgram start p t []

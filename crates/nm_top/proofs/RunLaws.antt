@@ -14,6 +14,7 @@ use Rattle.nm_top.specs.Schedules.{IsSchedule}
 use Rattle.nm_top.specs.Replies.{reply}
 use Rattle.nm_top.specs.Demands.{Demand, ProgramText, ScheduleText, HoldsIn, program_file, schedule_file, IsMet, Admits}
 use Rattle.nm_top.specs.Runs.{run_of_program}
+use Rattle.nm_top.specs.Watches.{Call}
 use Rattle.nm_top.specs.Answers.{CommandAnswer, Demanding}
 use Rattle.nm_top.specs.private.Works.{Stops, Nothing}
 use Rattle.nm_top.proofs.FileLaws.{held_more, later_stops, stops_on}
@@ -42,11 +43,11 @@ module _ (F : Option Files) where
       (λ held k. held_more held (program_file program) (λ text. Reads text p × (digest ≡ sha256 text)) (Admits (ProgramText program) held) (λ text r. (p, r.0)) k)
 
   -- the command ran
-  pub run_done : (program : List ℕ) (n : ℕ) (schedule : List ℕ) (mask : ℕ) (p : Program) (digest : List ℕ) (turns : List Turn)
+  pub run_done : (x : Call) (program : List ℕ) (n : ℕ) (schedule : List ℕ) (mask : ℕ) (p : Program) (digest : List ℕ) (turns : List Turn)
       → IfSome F (λ held. HoldsIn held (λ text. Reads text p × (digest ≡ sha256 text)) (program_file program)
       × HoldsIn held (λ text. IsSchedule n text turns) (schedule_file schedule))
-      → IfSome F (λ held. CommandAnswer (Run program n schedule mask) held (reply Done (blocks p n (run_of_program p n mask turns)) held))
-  run_done program n schedule mask p digest turns h = IfSome_then F h (λ held k. inl (inr (inr (
+      → IfSome F (λ held. CommandAnswer x (Run program n schedule mask) held (reply Done (blocks p n (run_of_program p n mask turns)) held))
+  run_done x program n schedule mask p digest turns h = IfSome_then F h (λ held k. inl (inr (inr (
     held_more held (program_file program) (λ text. Reads text p × (digest ≡ sha256 text)) (Admits (ProgramText program) held) (λ text r. (p, r.0)) k.0,
     inr (inr (
       held_more held (schedule_file schedule) (λ text. IsSchedule n text turns) (Admits (ScheduleText schedule n) held) (λ text r. (turns, r)) k.1,

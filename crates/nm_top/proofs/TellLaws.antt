@@ -21,9 +21,10 @@ use Rattle.nm_top.specs.declared.status.Status.TheVariants as statuses
 use Rattle.nm_top.specs.declared.stop.Stop.{Stop}
 use Rattle.nm_top.specs.declared.stop.Stop.TheVariants.{Refused, Memory}
 use Rattle.nm_top.specs.Finishing.{replayed, replay_text, finished, finish_text}
+use Rattle.nm_top.specs.Watches.{Given, Hear, watch_lines}
 use Rattle.nm_top.specs.private.Works.{Work, Whole, Refusing, Short, Tells, work_of, work_status, work_text}
 use Rattle.nm_top.specs.private.Replaying.{ReplaysProgram}
-use Rattle.nm_top.specs.private.Tellings.{Told, IsText, IsStuckWork, IsStuckStop, IsFinishWork}
+use Rattle.nm_top.specs.private.Tellings.{Told, IsReplayWork, IsStuckWork, IsStuckStop, IsFinishWork}
 use Rattle.nm_top.proofs.CarryLaws.{appends_none}
 
 module _ (work : Work) (before after : Option (List ℕ)) (was now : ℕ) (status : Status) where
@@ -37,12 +38,12 @@ module _ (work : Work) (before after : Option (List ℕ)) (was now : ℕ) (statu
   tells_err (Err k) f is h e = inl (e, h.cause.rose, h.err)
   tells_err (Ok y) f is h e = absurd cc
 
--- the blocks of the same world
-pub at_world : {M : Type 0} (w v : Parts CProc M) → w ≡ v → (p : Program) (E : List Event) (line : List ℕ) (before after : Option (List ℕ)) (was now : ℕ) (r : Result ⊤ Failed)
-    → (RunsProgram w p E → Prints before after was now (blocks p (length w.processes) E ++ line) r) → RunsProgram v p E
-    → Prints before after was now (blocks p (length v.processes) E ++ line) r
-at_world {M = M} w v e p E line before after was now r f =
-    subst (λ (w : Parts CProc M). RunsProgram w p E → Prints before after was now (blocks p (length w.processes) E ++ line) r) e f
+-- the blocks of the same world, and what is printed behind them
+pub at_world : {M : Type 0} (w v : Parts CProc M) → w ≡ v → (p : Program) (E : List Event) (line lines : List ℕ) (before after : Option (List ℕ)) (was now : ℕ) (r : Result ⊤ Failed)
+    → (RunsProgram w p E → Prints before after was now (blocks p (length w.processes) E ++ line ++ lines) r) → RunsProgram v p E
+    → Prints before after was now (blocks p (length v.processes) E ++ line ++ lines) r
+at_world {M = M} w v e p E line lines before after was now r f =
+    subst (λ (w : Parts CProc M). RunsProgram w p E → Prints before after was now (blocks p (length w.processes) E ++ line ++ lines) r) e f
 
 -- the text of a replay
 pub replay_same : {M : Type 0} (r : Replaying CProc M) (p : Program) (t : Content) (ts : List Turn) (turns idle : ℕ) → ReplaysProgram r p t (replayed p t ts) → turns ≡ length ts
@@ -51,46 +52,54 @@ replay_same r p t ts turns idle h a b =
     ap (λ (k : ℕ). blocks p k (replayed p t ts) ++ turns_line turns idle) h.replays.size ∙ ap (λ (k : ℕ). blocks p t.n (replayed p t ts) ++ turns_line k idle) a
     ∙ ap (λ (k : ℕ). blocks p t.n (replayed p t ts) ++ turns_line (length ts) k) b
 
--- a text was tried
-module _ (text : List ℕ) where
-  pub told_nothing : (given : Option (List ℕ)) (faults : ℕ) → Told (IsText text) given given faults faults statuses.WantOfMemory
-  told_nothing given faults = record { work = Short []; is = refl; tells = inr (refl, refl, appends_none given) }
+-- a replay by turns
+module _ (p : Program) (t : Content) (ts : List Turn) (x : Given) where
+  pub replay_nothing : (given : Option (List ℕ)) (faults : ℕ) → Told (IsReplayWork p t ts x) given given faults faults statuses.WantOfMemory
+  replay_nothing given faults = record { work = Short []; is = refl; tells = inr (refl, refl, appends_none given) }
 
-  module _ (before after : Option (List ℕ)) (was now : ℕ) where
-    pub told_ok : (r : Result ⊤ Failed) (x : ⊤) → r ≡ Ok x → Prints before after was now text r → Told (IsText text) before after was now statuses.Done
-    told_ok r x is h = record { work = Whole text; is = refl; tells = tells_ok (Whole text) before after was now statuses.Done r x is h refl }
+  module _ (before after : Option (List ℕ)) (was now : ℕ) (res : Result ⊤ Failed) (text : List ℕ) (hear : Hear (replayed p t ts) x) (same : text ≡ replay_text p t ts)
+      (prints : Prints before after was now (text ++ watch_lines 0 x.told) res) where
+    abbrev whole : List ℕ
+    whole = text ++ watch_lines 0 x.told
 
-    pub told_err : (r : Result ⊤ Failed) (f : Failed) → r ≡ Err f → Prints before after was now text r → Told (IsText text) before after was now statuses.WriteFault
-    told_err r f is h = record { work = Whole text; is = refl; tells = tells_err (Whole text) before after was now statuses.WriteFault r f is h refl }
+    is_whole : whole ≡ replay_text p t ts ++ watch_lines 0 x.told
+    is_whole = ap (λ (u : List ℕ). u ++ watch_lines 0 x.told) same
+
+    pub replay_ok : (u : ⊤) → res ≡ Ok u → Told (IsReplayWork p t ts x) before after was now statuses.Done
+    replay_ok u is = record { work = Whole whole; is = (hear, is_whole); tells = tells_ok (Whole whole) before after was now statuses.Done res u is prints refl }
+
+    pub replay_err : (f : Failed) → res ≡ Err f → Told (IsReplayWork p t ts x) before after was now statuses.WriteFault
+    replay_err f is = record { work = Whole whole; is = (hear, is_whole); tells = tells_err (Whole whole) before after was now statuses.WriteFault res f is prints refl }
 
 -- a finished replay
-module _ (p : Program) (t : Content) where
-  pub finish_nothing : (given : Option (List ℕ)) (faults : ℕ) → Told (IsFinishWork p t) given given faults faults statuses.WantOfMemory
+module _ (p : Program) (t : Content) (x : Given) where
+  pub finish_nothing : (given : Option (List ℕ)) (faults : ℕ) → Told (IsFinishWork p t x) given given faults faults statuses.WantOfMemory
   finish_nothing given faults = record { work = Short []; is = refl; tells = inr (refl, refl, appends_none given) }
 
   -- the text that was printed is that of the finished replay
   finish_same : {M : Type 0} (r : Replaying CProc M) (turns idle : ℕ) → ReplaysProgram r p t (finished p t).events → turns ≡ (finished p t).turns → idle ≡ (finished p t).idle
-      → blocks p (length r.world.processes) (finished p t).events ++ turns_line turns idle ≡ finish_text p t
+      → blocks p (length r.world.processes) (finished p t).events ++ turns_line turns idle ++ watch_lines 0 x.told ≡ finish_text p t ++ watch_lines 0 x.told
   finish_same r turns idle h a b =
-      ap (λ (k : ℕ). blocks p k (finished p t).events ++ turns_line turns idle) h.replays.size ∙ ap (λ (k : ℕ). blocks p t.n (finished p t).events ++ turns_line k idle) a
-      ∙ ap (λ (k : ℕ). blocks p t.n (finished p t).events ++ turns_line (finished p t).turns k) b
+      ap (λ (k : ℕ). blocks p k (finished p t).events ++ turns_line turns idle ++ watch_lines 0 x.told) h.replays.size
+      ∙ ap (λ (k : ℕ). blocks p t.n (finished p t).events ++ turns_line k idle ++ watch_lines 0 x.told) a
+      ∙ ap (λ (k : ℕ). blocks p t.n (finished p t).events ++ turns_line (finished p t).turns k ++ watch_lines 0 x.told) b
 
   module _ (before after : Option (List ℕ)) (was now : ℕ) where
-    pub finish_ok : {M : Type 0} (res : Result ⊤ Failed) (x : ⊤) → res ≡ Ok x → (r : Replaying CProc M) (turns idle : ℕ) → ReplaysProgram r p t (finished p t).events
-        → all_reached (seen_trace t) (finished p t).events ≡ true → turns ≡ (finished p t).turns → idle ≡ (finished p t).idle
-        → Prints before after was now (blocks p (length r.world.processes) (finished p t).events ++ turns_line turns idle) res
-        → Told (IsFinishWork p t) before after was now statuses.Done
-    finish_ok res x is r turns idle h reached a b prints =
-        let text = blocks p (length r.world.processes) (finished p t).events ++ turns_line turns idle in
-        record { work = Whole text; is = (reached, finish_same r turns idle h a b); tells = tells_ok (Whole text) before after was now statuses.Done res x is prints refl }
+    pub finish_ok : {M : Type 0} (res : Result ⊤ Failed) (u : ⊤) → res ≡ Ok u → (r : Replaying CProc M) (turns idle : ℕ) → ReplaysProgram r p t (finished p t).events
+        → all_reached (seen_trace t) (finished p t).events ≡ true → turns ≡ (finished p t).turns → idle ≡ (finished p t).idle → Hear (finished p t).events x
+        → Prints before after was now (blocks p (length r.world.processes) (finished p t).events ++ turns_line turns idle ++ watch_lines 0 x.told) res
+        → Told (IsFinishWork p t x) before after was now statuses.Done
+    finish_ok res u is r turns idle h reached a b hear prints =
+        let text = blocks p (length r.world.processes) (finished p t).events ++ turns_line turns idle ++ watch_lines 0 x.told in
+        record { work = Whole text; is = (reached, hear, finish_same r turns idle h a b); tells = tells_ok (Whole text) before after was now statuses.Done res u is prints refl }
 
     pub finish_err : {M : Type 0} (res : Result ⊤ Failed) (f : Failed) → res ≡ Err f → (r : Replaying CProc M) (turns idle : ℕ) → ReplaysProgram r p t (finished p t).events
-        → all_reached (seen_trace t) (finished p t).events ≡ true → turns ≡ (finished p t).turns → idle ≡ (finished p t).idle
-        → Prints before after was now (blocks p (length r.world.processes) (finished p t).events ++ turns_line turns idle) res
-        → Told (IsFinishWork p t) before after was now statuses.WriteFault
-    finish_err res f is r turns idle h reached a b prints =
-        let text = blocks p (length r.world.processes) (finished p t).events ++ turns_line turns idle in
-        record { work = Whole text; is = (reached, finish_same r turns idle h a b); tells = tells_err (Whole text) before after was now statuses.WriteFault res f is prints refl }
+        → all_reached (seen_trace t) (finished p t).events ≡ true → turns ≡ (finished p t).turns → idle ≡ (finished p t).idle → Hear (finished p t).events x
+        → Prints before after was now (blocks p (length r.world.processes) (finished p t).events ++ turns_line turns idle ++ watch_lines 0 x.told) res
+        → Told (IsFinishWork p t x) before after was now statuses.WriteFault
+    finish_err res f is r turns idle h reached a b hear prints =
+        let text = blocks p (length r.world.processes) (finished p t).events ++ turns_line turns idle ++ watch_lines 0 x.told in
+        record { work = Whole text; is = (reached, hear, finish_same r turns idle h a b); tells = tells_err (Whole text) before after was now statuses.WriteFault res f is prints refl }
 
     -- the replay is stuck, and that was told
     pub stuck_told : (stop : Stop) (events : List ℕ) (status : Status) → IsStuckStop t events stop → all_reached (seen_trace t) (finished p t).events ≡ false
@@ -119,8 +128,10 @@ module _ (p : Program) (t : Content) where
     stuck_told (Refused (refusals.OtherProgram of_trace of_file)) events status is below events_are tells = absurd is
     stuck_told (Refused (refusals.Stopped turns)) events status is below events_are tells = absurd is
     stuck_told (Refused (refusals.NotItsTrace letter)) events status is below events_are tells = absurd is
+    stuck_told (Refused refusals.InputFault) events status is below events_are tells = absurd is
+    stuck_told (Refused refusals.InputFull) events status is below events_are tells = absurd is
 
     pub finish_stuck : (stop : Stop) (events : List ℕ) (status : Status) → IsStuckStop t events stop → all_reached (seen_trace t) (finished p t).events ≡ false
-        → ((q : ℕ) → slice_index events q ≡ count (finished p t).events q) → Tells (work_of stop) before after was now status → Told (IsFinishWork p t) before after was now status
+        → ((q : ℕ) → slice_index events q ≡ count (finished p t).events q) → Tells (work_of stop) before after was now status → Told (IsFinishWork p t x) before after was now status
     finish_stuck stop events status is below events_are tells =
         let k = stuck_told stop events status is below events_are tells in record { work = Refusing (refusals.Stuck k.0 k.1 k.2); is = k.3; tells = k.4 }

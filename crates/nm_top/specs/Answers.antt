@@ -1,5 +1,5 @@
 -- The answer to the words of the command line.
-use Rattle.std.specs.Prelude.{◌≡◌, ◌≢◌, ◌⊎◌, ℕ, List, [], ◌∷◌, ◌++◌, MatchOption, IsSomeAnd, Option, Some, None, false, slice_index}
+use Rattle.std.specs.Prelude.{◌≡◌, ◌≢◌, ◌⊎◌, ℕ, List, [], ◌∷◌, ◌++◌, MatchOption, IsSomeAnd, Option, Some, None, true, false, slice_index, if◌then◌else◌}
 use Rattle.std.specs.Option.{option_and_then}
 use Rattle.nm_base.specs.declared.letter.LetterId.{LetterId}
 use Rattle.nm_outside.specs.Files.{Files}
@@ -24,10 +24,15 @@ use Rattle.report.specs.Texts.{
   other_program_line,
   stuck_line,
   not_its_trace_line,
+  refusal_line,
 }
+use Rattle.report.specs.declared.cause.Refusal.{Refusal}
+use Rattle.report.specs.declared.cause.Refusal.TheVariants as refusals
+use Rattle.nm_top.specs.Statuses.{status_of}
 use Rattle.nm_top.specs.declared.status.Status.{Status}
 use Rattle.nm_top.specs.declared.status.Status.TheVariants.{Done, Usage, Absent, ReadFault, TooLong, WantOfMemory}
-use Rattle.nm_top.specs.Commands.{Command, Run, Record, Replay, Finish, Certify, Upgrade, command_of}
+use Rattle.nm_top.specs.declared.status.Status.TheVariants as statuses
+use Rattle.nm_top.specs.Commands.{Command, Run, Record, Replay, Finish, Certify, Debug, Upgrade, command_of}
 use Rattle.nm_top.specs.Programs.{Cause, RefusedFor}
 use Rattle.nm_top.specs.Schedules.{BadPlace, IsFirstBad}
 use Rattle.nm_top.specs.Demands.{
@@ -55,10 +60,15 @@ use Rattle.nm_top.specs.Demands.{
 }
 use Rattle.nm_top.specs.Finishing.{finished}
 use Rattle.nm_top.specs.Replies.{Reply, reply, Says}
+use Rattle.nm_top.specs.Watches.{Call}
 use Rattle.nm_top.specs.Runs.{run_demands, RunPrints}
 use Rattle.nm_top.specs.Recordings.{ToRecord, RecordDoes, RecordStops, RecordBreaks, RecordFits}
 use Rattle.nm_top.specs.Replays.{ReplayPrints, FinishPrints}
 use Rattle.nm_top.specs.Certifying.{CertifyPrints, CertifyStops}
+use Rattle.nm_top.specs.declared.talk.End.{End}
+use Rattle.nm_top.specs.declared.talk.End.TheVariants.{Over, InputFault, InputFull}
+use Rattle.nm_top.specs.Debugging.{passes_limit}
+use Rattle.nm_top.specs.Debugs.{Debugs, DebugStops}
 use Rattle.nm_top.specs.Upgrades.{UpgradeDoes, UpgradeBreaks, UpgradeFits}
 
 -- ---- commands
@@ -75,6 +85,7 @@ demands_of (Replay program trace schedule) = pair_demands program trace ++ Trace
 demands_of (Finish program trace) = pair_demands program trace ++ Finishes program trace ∷ []
 demands_of (Certify program trace) =
     pair_demands program trace ++ Finishes program trace ∷ Matches program trace ∷ []
+demands_of (Debug program trace) = pair_demands program trace
 demands_of (Upgrade trace new) = TraceText trace ∷ []
 
 abbrev pub to_record : List ℕ → ℕ → List ℕ → List ℕ → ℕ → ℕ → ToRecord
@@ -82,27 +93,32 @@ to_record program n schedule trace version mask =
     record { program = program; n = n; schedule = schedule; trace = trace; version = version; mask = mask }
 
 -- what it prints, and what it leaves, where all that is met
-abbrev pub Carried : Command → Files → List ℕ → Files → Type 0
-Carried (Run program n schedule mask) files printed left =
+abbrev pub Carried : Call → Command → Files → List ℕ → Files → Type 0
+Carried x (Run program n schedule mask) files printed left =
     RunPrints program n schedule mask files printed × (left ≡ files)
-Carried (Record program n schedule trace version mask) files printed left =
+Carried x (Record program n schedule trace version mask) files printed left =
     RecordDoes (to_record program n schedule trace version mask) files printed left
-Carried (Replay program trace schedule) files printed left =
-    ReplayPrints program trace schedule files printed × (left ≡ files)
-Carried (Finish program trace) files printed left = FinishPrints program trace files printed × (left ≡ files)
-Carried (Certify program trace) files printed left = CertifyPrints program trace files printed × (left ≡ files)
-Carried (Upgrade trace new) files printed left = UpgradeDoes trace new files printed left
+Carried x (Replay program trace schedule) files printed left =
+    ReplayPrints x.watchers program trace schedule files printed × (left ≡ files)
+Carried x (Finish program trace) files printed left = FinishPrints x.watchers program trace files printed
+    × (left ≡ files)
+Carried x (Certify program trace) files printed left = CertifyPrints program trace files printed × (left ≡ files)
+Carried x (Debug program trace) files printed left = Debugs x program trace Over files printed × (left ≡ files)
+Carried x (Upgrade trace new) files printed left = UpgradeDoes trace new files printed left
 
--- what was done before there was want of memory: nothing; or the turns of a recording, or the first certificates
-abbrev pub StopsEarly : Command → Files → List ℕ → Files → Type 0
-StopsEarly (Record program n schedule trace version mask) files printed left =
+-- what was done before there was want of memory: nothing; or the turns of a recording, the first certificates, or the
+-- replies to the first lines
+abbrev pub StopsEarly : Call → Command → Files → List ℕ → Files → Type 0
+StopsEarly x (Record program n schedule trace version mask) files printed left =
     RecordStops (to_record program n schedule trace version mask) files printed left
-StopsEarly (Certify program trace) files printed left = CertifyStops program trace files printed × (left ≡ files)
-StopsEarly command files printed left = ⊥
+StopsEarly x (Certify program trace) files printed left = CertifyStops program trace files printed × (left ≡ files)
+StopsEarly x (Debug program trace) files printed left =
+    DebugStops x program trace files printed × (left ≡ files)
+StopsEarly x command files printed left = ⊥
 
-abbrev pub RunsShort : Command → Files → List ℕ → Files → Type 0
-RunsShort command files printed left =
-    ((printed ≡ []) × (left ≡ files)) ⊎ StopsEarly command files printed left
+abbrev pub RunsShort : Call → Command → Files → List ℕ → Files → Type 0
+RunsShort x command files printed left =
+    ((printed ≡ []) × (left ≡ files)) ⊎ StopsEarly x command files printed left
 
 -- the file that it writes, if it writes one
 abbrev pub written_of : Command → Option (List ℕ)
@@ -206,24 +222,38 @@ Demanding (demand ∷ demands) done files r =
 -- ---- answers
 
 -- a command is done
-abbrev pub IsDone : Command → Files → Reply → Type 0
-IsDone command files r =
-    (printed : List ℕ) × (left : Files) × Carried command files printed left × (r ≡ reply Done printed left)
+abbrev pub IsDone : Call → Command → Files → Reply → Type 0
+IsDone x command files r =
+    (printed : List ℕ) × (left : Files) × Carried x command files printed left × (r ≡ reply Done printed left)
 
 -- memory was refused
-abbrev pub IsShort : Command → Files → Reply → Type 0
-IsShort command files r =
-    (printed : List ℕ) × (left : Files) × RunsShort command files printed left × (r ≡ reply WantOfMemory printed left)
+abbrev pub IsShort : Call → Command → Files → Reply → Type 0
+IsShort x command files r =
+    (printed : List ℕ) × (left : Files) × RunsShort x command files printed left × (r ≡ reply WantOfMemory printed left)
 
--- the answer to a command
-abbrev pub CommandAnswer : Command → Files → Reply → Type 0
-CommandAnswer command files r =
-    Demanding (demands_of command) (IsDone command files) files r ⊎ IsShort command files r
+-- The input of a debugger failed, or is too long: the replies to the lines before that are printed, and its line.
+pub record IsEnded (x : Call) (program trace : List ℕ) (end : End) (refusal : Refusal) (files : Files) (r : Reply)
+    : Type 0 where
+  pub replies : List ℕ
+  pub debugs : Debugs x program trace end files replies
+  pub is : r ≡ reply (status_of refusal) (replies ++ refusal_line refusal) files
+
+abbrev pub EndsBehind : Call → Command → Files → Reply → Type 0
+EndsBehind x (Debug program trace) files r =
+    IsEnded x program trace InputFault refusals.InputFault files r
+    ⊎ IsEnded x program trace InputFull refusals.InputFull files r
+EndsBehind x command files r = ⊥
+
+-- the answer to a command that is given this
+abbrev pub CommandAnswer : Call → Command → Files → Reply → Type 0
+CommandAnswer x command files r =
+    Demanding (demands_of command) (IsDone x command files) files r ⊎ (IsShort x command files r
+    ⊎ EndsBehind x command files r)
 
 -- the answer to words
-abbrev pub Answer : List (List ℕ) → Files → Reply → Type 0
-Answer words files r =
-    MatchOption (command_of words) (Says files Usage usage_line r) (λ command. CommandAnswer command files r)
+abbrev pub Answer : Call → List (List ℕ) → Files → Reply → Type 0
+Answer x words files r =
+    MatchOption (command_of words) (Says files Usage usage_line r) (λ command. CommandAnswer x command files r)
 
 -- The words name a command, a write of which may leave the files so where it fails.
 abbrev pub MayBreak : List (List ℕ) → Files → Files → Type 0
@@ -236,6 +266,27 @@ Due status words files = IsSomeAnd (command_of words) (λ command. FirstFailsAs 
 -- The words name a command, and each of its demands is met.
 abbrev pub Ready : List (List ℕ) → Files → Type 0
 Ready words files = IsSomeAnd (command_of words) (λ command. AreMet (demands_of command) files)
+
+-- what a debugger of n processes ends with: it finds the input full exactly when that passes its limit
+abbrev pub InputEnd : ℕ → Option (List ℕ) → Status → Type 0
+InputEnd n None status = (status ≡ Done) ⊎ (status ≡ statuses.InputFull)
+InputEnd n (Some input) status = status ≡ (if passes_limit n input then statuses.InputFull else Done)
+
+-- what a command whose demands are met ends with
+abbrev pub IsEnd : Call → Files → Command → Status → Type 0
+IsEnd x files (Debug program trace) status = (t : Content) × HasTrace files trace t × InputEnd t.n x.input status
+IsEnd x files command status = status ≡ Done
+
+abbrev pub EndsWith : Call → List (List ℕ) → Files → Status → Type 0
+EndsWith x words files status = IsSomeAnd (command_of words) (λ command. IsEnd x files command status)
+
+-- It is a debugger's, and the input passes its limit.
+abbrev pub IsOverfull : Command → Files → List ℕ → Type 0
+IsOverfull (Debug program trace) files input = (t : Content) × HasTrace files trace t × (passes_limit t.n input ≡ true)
+IsOverfull command files input = ⊥
+
+abbrev pub Overfills : List (List ℕ) → Files → List ℕ → Type 0
+Overfills words files input = IsSomeAnd (command_of words) (λ command. IsOverfull command files input)
 
 -- The words name a command that fetches this file.
 abbrev pub Fetches : List (List ℕ) → List ℕ → Type 0

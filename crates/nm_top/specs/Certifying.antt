@@ -12,8 +12,8 @@ use Rattle.report.specs.Texts.{certificate, certificates_line}
 use Rattle.nm_top.specs.Demands.{AreReplayed}
 use Rattle.nm_top.specs.Finishing.{finished, entries_of}
 
--- w is the certificate of the letter in the run F: its fields are what F says, and its turns, carried out from the start,
--- are the letter's witness
+-- w is the certificate of the letter in the run F: its fields are what F says, and its turns, carried out from the
+-- start, are the letter's witness
 pub record Certifies (p : Program) (n mask : ℕ) (F : List Event) (letter : LetterId) (w : Witness) : Type 0 where
   pub names : w.id ≡ letter
   pub certificate : IsCertificate mask F w

@@ -33,16 +33,16 @@ Answers allowed None left before after status = ⊤
 Answers allowed (Some held) left before after status =
     (status ≡ WriteFault) ⊎ ((r : Reply) × allowed held r × Gave r left before after status)
 
--- The sink failed at a reply that is allowed, whose status is ReadFault exactly where a read failed: a part of its text
--- was given, from its front, and the files are as it leaves them.
-pub record CutShort (allowed : Files → Reply → Type 0) (was now : ℕ) (held : Files) (left : Option Files)
+-- The sink failed at a reply that is allowed, whose status is ReadFault exactly where a read, or a take of the input,
+-- failed: a part of its text was given, from its front, and the files are as it leaves them.
+pub record CutShort (allowed : Files → Reply → Type 0) (was now takes takes' : ℕ) (held : Files) (left : Option Files)
     (before after : Option (List ℕ)) : Type 0 where
   pub reply : Reply
   pub is_allowed : allowed held reply
   pub part : AppendsPart before after reply.printed
   pub leaves : left ≡ Some reply.left
-  pub failed : reply.status ≡ ReadFault → Rose was now
-  pub read : reply.status ≢ ReadFault → now ≡ was
+  pub failed : reply.status ≡ ReadFault → Rose was now ⊎ Rose takes takes'
+  pub read : reply.status ≢ ReadFault → (now ≡ was) × (takes' ≡ takes)
 
 -- A write to a file failed: nothing was printed, and the files are such as that may leave.
 pub record CutOff (broken : Files → Files → Type 0) (held : Files) (left : Option Files)
@@ -53,11 +53,11 @@ pub record CutOff (broken : Files → Files → Type 0) (held : Files) (left : O
   pub printed : Appends before after []
 
 -- Where the files are told, a write failed, of the sink or of a file.
-abbrev pub Breaks : (Files → Reply → Type 0) → (Files → Files → Type 0) → ℕ → ℕ → Option Files → Option Files
+abbrev pub Breaks : (Files → Reply → Type 0) → (Files → Files → Type 0) → ℕ → ℕ → ℕ → ℕ → Option Files → Option Files
     → Option (List ℕ) → Option (List ℕ) → Type 0
-Breaks allowed broken was now None left before after = ⊤
-Breaks allowed broken was now (Some held) left before after =
-    CutShort allowed was now held left before after ⊎ CutOff broken held left before after
+Breaks allowed broken was now takes takes' None left before after = ⊤
+Breaks allowed broken was now takes takes' (Some held) left before after =
+    CutShort allowed was now takes takes' held left before after ⊎ CutOff broken held left before after
 
 -- No other file than the named one changed, if one is named.
 abbrev pub KeepsOthers : Option (List ℕ) → Option Files → Option Files → Type 0
@@ -65,8 +65,8 @@ KeepsOthers None old new = new ≡ old
 KeepsOthers (Some name) old new =
     (new ≡ old) ⊎ ((bytes : List ℕ) × (new ≡ option_map (λ files. insert files name bytes) old))
 
--- Where no read and no write failed, the status is this one, or there was want of memory.
-abbrev pub Owed : Status → ℕ → ℕ → ℕ → ℕ → ℕ → ℕ → Status → Type 0
-Owed due reads reads' writes writes' faults faults' status =
-    ¬ Rose reads reads' → ¬ Rose writes writes' → ¬ Rose faults faults'
-    → (status ≡ due) ⊎ (status ≡ WantOfMemory)
+-- Where no read, no take and no write failed, this holds of the status, or there was want of memory.
+abbrev pub Owed : (Status → Type 0) → ℕ → ℕ → ℕ → ℕ → ℕ → ℕ → ℕ → ℕ → Status → Type 0
+Owed due reads reads' takes takes' writes writes' faults faults' status =
+    ¬ Rose reads reads' → ¬ Rose takes takes' → ¬ Rose writes writes' → ¬ Rose faults faults'
+    → due status ⊎ (status ≡ WantOfMemory)

@@ -17,6 +17,7 @@ use Rattle.nm_top.specs.declared.status.Status.TheVariants.{
   Stuck,
   WantOfMemory,
   NotItsTrace,
+  InputFull,
 }
 
 abbrev pub exit_code : Status → ℕ
@@ -33,12 +34,14 @@ exit_code OtherProgram = 9
 exit_code Stuck = 10
 exit_code WantOfMemory = 11
 exit_code NotItsTrace = 12
+exit_code InputFull = 13
 
 -- the status that a refusal ends with
 abbrev pub status_of : Refusal → Status
 status_of refusals.Usage = Usage
 status_of (refusals.Absent name) = Absent
 status_of (refusals.ReadFault name) = ReadFault
+status_of refusals.InputFault = ReadFault
 status_of (refusals.TooLong name) = TooLong
 status_of (refusals.ProgramRefused kind line) = ProgramRefused
 status_of (refusals.ScheduleRefused kind place) = ScheduleRefused
@@ -47,6 +50,7 @@ status_of (refusals.OtherProgram of_trace of_file) = OtherProgram
 status_of (refusals.Stuck n events counts) = Stuck
 status_of (refusals.Stopped turns) = WantOfMemory
 status_of (refusals.NotItsTrace letter) = NotItsTrace
+status_of refusals.InputFull = InputFull
 
 -- whether the status refuses what files hold: one is absent, or too long, or something that is demanded of them isn't
 -- met
@@ -56,12 +60,21 @@ is_of_files Usage = false
 is_of_files ReadFault = false
 is_of_files WriteFault = false
 is_of_files WantOfMemory = false
+is_of_files InputFull = false
 is_of_files status = true
+
+-- It is of the input of a debugger.
+abbrev pub IsOfInput : Refusal → Type 0
+IsOfInput refusals.InputFault = ⊤
+IsOfInput refusals.InputFull = ⊤
+IsOfInput refusal = ⊥
 
 -- The refusal is one of a command's demands: it names no file, or one of which this holds.
 abbrev pub IsOf : (List ℕ → Type 0) → Refusal → Type 0
 IsOf P refusals.Usage = ⊥
 IsOf P (refusals.Stopped turns) = ⊥
+IsOf P refusals.InputFault = ⊥
+IsOf P refusals.InputFull = ⊥
 IsOf P (refusals.Absent name) = P name.now
 IsOf P (refusals.ReadFault name) = P name.now
 IsOf P (refusals.TooLong name) = P name.now

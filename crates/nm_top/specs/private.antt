@@ -8,3 +8,6 @@ pub mod Top
 pub mod Unread
 pub mod Upgraded
 pub mod Works
+pub mod LineFronts
+pub mod Talking
+pub mod DebugWork

@@ -15,6 +15,7 @@ ghost use Rattle.nm_top.specs.Commands as commands;
 ghost use Rattle.nm_top.specs.Finishing.{entries_of, finished};
 ghost use Rattle.nm_top.specs.private.Certifications.{PutsCertificates};
 ghost use Rattle.nm_top.specs.private.Tellings.{AreCertificates, IsCertifyWork, Told};
+ghost use Rattle.nm_top.specs.Watches.{Call};
 ghost use Rattle.nm_top.specs.private.Works.{Carries, outside};
 
 use crate::finish::stuck;
@@ -210,7 +211,7 @@ pub fn certify<C: Cabinet, O: Sink>(
     files: &mut C,
     out: &mut O,
 ) -> Status
-    ensures { Carries (commands.Certify program.now trace.now)
+    ensures { (x : Call) → Carries x (commands.Certify program.now trace.now)
         (outside (C.files files.old) (C.absents files.old) (C.read_faults files.old) (C.write_faults files.old)
         (C.sure_room files.old) (O.given out.old) (O.faults out.old))
         (outside (C.files files.new) (C.absents files.new) (C.read_faults files.new) (C.write_faults files.new)

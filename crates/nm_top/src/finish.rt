@@ -1,6 +1,6 @@
 //! The command `replay` without a schedule: the replay is finished by round robin.
 
-ghost use Rattle.std.specs.Prelude.{◌≡◌, ℕ, [], true, slice_index};
+ghost use Rattle.std.specs.Prelude.{◌≡◌, ℕ, List, Option, [], map, true, slice_index, IfSome};
 ghost use Rattle.c_tree.specs.declared.program.Program.{Program};
 ghost use Rattle.stack_code.specs.View.{seen_code};
 ghost use Rattle.event_list.specs.Events.{count};
@@ -11,8 +11,11 @@ ghost use Rattle.c_process.specs.Standing.{IsCodeOf};
 ghost use Rattle.replay_core.specs.Gates.{seen_trace};
 ghost use Rattle.nm_top.specs.Commands as commands;
 ghost use Rattle.nm_top.specs.Finishing.{finished};
-ghost use Rattle.nm_top.specs.private.Replaying.{ReplaysProgram};
-ghost use Rattle.nm_top.specs.private.Tellings.{IsFinishWork, IsStuckStop, Told};
+ghost use Rattle.watchers.specs.Watched.{Watched};
+ghost use Rattle.nm_top.specs.Watches.{Given, Hear, call, given};
+ghost use Rattle.nm_top.specs.Heard.{Hears};
+ghost use Rattle.nm_top.specs.private.Replaying.{HasFinishedRun, IfStuck, ReplaysProgram, WasUnfinished};
+ghost use Rattle.nm_top.specs.private.Tellings.{HearsFinish, IsFinishWork, IsStuckStop, Told};
 ghost use Rattle.nm_top.specs.private.Works.{Carries, outside};
 
 use crate::pair::{Pair, pair_in};
@@ -21,6 +24,7 @@ use crate::start::compiled;
 use crate::status::Status;
 use crate::stop::Stop;
 use crate::tell::tell;
+use crate::watching::tell_each;
 use c_process::CProc;
 use mailboxes::OrderedMail;
 use nm_base::ProcNo;
@@ -30,6 +34,7 @@ use report::Refusal;
 use stack_code::Code;
 use std::alloc::Global;
 use trace_file::Trace;
+use watchers::Watcher;
 
 // Each process's recorded number of events, and 0 for processes that there aren't.
 fn counts_of(trace: &Trace) -> [u32; 32]
@@ -54,68 +59,108 @@ pub fn stuck<'a>(trace: &Trace, events: [u32; 32]) -> Stop<'a>
 }
 
 // Prints a finished replay.
-fn tell_finished<O: Sink>(
+fn tell_finished<O: Sink, W: Watcher>(
     out: &mut O,
     replay: &Replay<CProc<'_>, OrderedMail>,
     round: Finished,
+    watch: &Vec<W>,
 ) -> Status
-    ensures { (p : Program) (t : Content) → ReplaysProgram replay.now p t (finished p t).events
+    ensures told { (p : Program) (t : Content) (first : List Watched)
+        → ReplaysProgram replay.now p t (finished p t).events
         → all_reached (seen_trace t) (finished p t).events ≡ true
         → round.turns ≡ (finished p t).turns → round.idle ≡ (finished p t).idle
-        → Told (IsFinishWork p t) (O.given out.old) (O.given out.new) (O.faults out.old) (O.faults out.new) result }
+        → Hear (finished p t).events (given first (map W.watched watch.now.items))
+        → Told (IsFinishWork p t (given first (map W.watched watch.now.items)))
+        (O.given out.old) (O.given out.new) (O.faults out.old) (O.faults out.new) result }
+    ensures heard { (p : Program) (t : Content) (first : List Watched)
+        → Hear (finished p t).events (given first (map W.watched watch.now.items))
+        → HearsFinish p t (given first (map W.watched watch.now.items)) result }
 {
-    match put_replay(out, replay.world(), round.turns, round.idle) {
+    match put_replay(out, replay.world(), round.turns, round.idle, watch) {
         Ok(()) => Status::Done,
         Err(_) => Status::WriteFault,
     }
 }
 
-// Replays the code to its end.
-fn finish_code<O: Sink>(alloc: Global, code: &Code, trace: &Trace, out: &mut O) -> Status
-    requires trace { IsTrace trace.now }
-    requires code { (p : Program) × IsCodeOf p (seen_code code.now) }
-    ensures { (p : Program) → IsCodeOf p (seen_code code.now) → Told (IsFinishWork p trace.now)
-        (O.given out.old) (O.given out.new) (O.faults out.old) (O.faults out.new) result }
+// Prints why a replay wasn't finished.
+fn tell_unfinished<O: Sink>(out: &mut O, fault: ReplayFault, stuck: &Stop<'_>) -> Status
+    ensures told { (p : Program) (t : Content) (x : Given) → WasUnfinished p t x stuck.now fault
+        → Told (IsFinishWork p t x) (O.given out.old) (O.given out.new) (O.faults out.old) (O.faults out.new) result }
+    ensures heard { (p : Program) (t : Content) (x : Given) → WasUnfinished p t x stuck.now fault
+        → HearsFinish p t x result }
 {
-    let Ok(mut replay) = begun(alloc, code, trace) else {
-        return Status::WantOfMemory;
-    };
-    match replay.finish(alloc) {
-        Ok(round) => tell_finished(out, &replay, round),
-        Err(ReplayFault::Stuck { counts }) => tell(out, &stuck(trace, counts)),
-        Err(ReplayFault::Memory) => Status::WantOfMemory,
+    match fault {
+        ReplayFault::Stuck { .. } => tell(out, stuck),
+        ReplayFault::Memory => Status::WantOfMemory,
     }
 }
 
-// Compiles the program and replays it.
-fn finish_pair<O: Sink>(alloc: Global, pair: &Pair, out: &mut O) -> Status
-    requires trace { IsTrace pair.now.trace }
-    ensures { Told (IsFinishWork pair.now.program pair.now.trace)
+// Tells the watchers of each event of a replay that was finished, and prints it, or why it is none.
+fn tell_finish<O: Sink, W: Watcher>(
+    alloc: Global,
+    replay: &Replay<CProc<'_>, OrderedMail>,
+    round: Result<Finished, ReplayFault>,
+    stuck: &Stop<'_>,
+    watch: &mut Vec<W>,
+    out: &mut O,
+) -> Status
+    ensures told { (p : Program) (t : Content) → HasFinishedRun replay.now p t round
+        → IfStuck round (λ events. IsStuckStop t events stuck.now)
+        → Told (IsFinishWork p t (given (map W.watched watch.old.items) (map W.watched watch.new.items)))
         (O.given out.old) (O.given out.new) (O.faults out.old) (O.faults out.new) result }
+    ensures heard { (p : Program) (t : Content) → HasFinishedRun replay.now p t round
+        → IfStuck round (λ events. IsStuckStop t events stuck.now)
+        → HearsFinish p t (given (map W.watched watch.old.items) (map W.watched watch.new.items)) result }
 {
-    let Ok(code) = compiled(alloc, &pair.program) else {
-        return Status::WantOfMemory;
-    };
-    finish_code(alloc, &code, &pair.trace, out)
+    tell_each(alloc, watch, replay.events());
+    match round {
+        Ok(round) => tell_finished(out, replay, round, watch),
+        Err(fault) => tell_unfinished(out, fault, stuck),
+    }
 }
 
-/// Replays the program in a file under the trace in another to its recorded end, and prints the processes' blocks,
-/// the summary and the line of its turns.
-pub fn finish<C: Cabinet, O: Sink>(
+// What stops the command where finishing is stuck.
+fn stuck_after<'a>(trace: &Trace, round: &Result<Finished, ReplayFault>) -> Stop<'a>
+    requires { IsTrace trace.now }
+    ensures { IfStuck round.now (λ events. IsStuckStop trace.now events result) }
+{
+    match round {
+        Err(ReplayFault::Stuck { counts }) => stuck(trace, *counts),
+        _ => Stop::Memory,
+    }
+}
+
+/// Replays the program in a file under the trace in another to its recorded end, tells the watchers of each event, and
+/// prints the processes' blocks, the summary, the line of its turns and those of the watchers.
+pub fn finish<C: Cabinet, O: Sink, W: Watcher>(
     alloc: Global,
     program: &str,
     trace: &str,
     files: &mut C,
     out: &mut O,
+    watch: &mut Vec<W>,
 ) -> Status
-    ensures { Carries (commands.Finish program.now trace.now)
+    ensures carries { (input : Option (List ℕ))
+        → Carries (call input (given (map W.watched watch.old.items) (map W.watched watch.new.items)))
+        (commands.Finish program.now trace.now)
         (outside (C.files files.old) (C.absents files.old) (C.read_faults files.old) (C.write_faults files.old)
         (C.sure_room files.old) (O.given out.old) (O.faults out.old))
         (outside (C.files files.new) (C.absents files.new) (C.read_faults files.new) (C.write_faults files.new)
         (C.sure_room files.new) (O.given out.new) (O.faults out.new)) result }
+    ensures told { IfSome (C.files files.old) (λ held. Hears (commands.Finish program.now trace.now) held
+        result (given (map W.watched watch.old.items) (map W.watched watch.new.items))) }
 {
-    match pair_in(alloc, files, program, trace) {
-        Ok(pair) => finish_pair(alloc, &pair, out),
-        Err(stop) => tell(out, &stop),
-    }
+    let pair = match pair_in(alloc, files, program, trace) {
+        Ok(pair) => pair,
+        Err(stop) => return tell(out, &stop),
+    };
+    let Ok(code) = compiled(alloc, &pair.program) else {
+        return Status::WantOfMemory;
+    };
+    let Ok(mut replay) = begun(alloc, &code, &pair.trace) else {
+        return Status::WantOfMemory;
+    };
+    let round = replay.finish(alloc);
+    let stuck = stuck_after(&pair.trace, &round);
+    tell_finish(alloc, &replay, round, &stuck, watch, out)
 }

@@ -14,6 +14,7 @@ ghost use Rattle.nm_top.specs.Answers.{to_record};
 ghost use Rattle.nm_top.specs.Commands.{Record};
 ghost use Rattle.nm_top.specs.private.Named.{AreFew};
 ghost use Rattle.nm_top.specs.private.Recorded.{HasRecorded, recorded_work};
+ghost use Rattle.nm_top.specs.Watches.{Call};
 ghost use Rattle.nm_top.specs.private.Works.{Carries, Tells, outside};
 
 use crate::run::{RunInput, demanded};
@@ -149,7 +150,8 @@ pub fn record<C: Cabinet, O: Sink>(
 ) -> Status
     requires range { AreFew processes }
     requires version { IsVersion to.version to.mask }
-    ensures { Carries (Record program.now processes schedule.now to.entry.trace.now to.entry.version to.entry.mask)
+    ensures { (x : Call)
+        → Carries x (Record program.now processes schedule.now to.entry.trace.now to.entry.version to.entry.mask)
         (outside (C.files files.old) (C.absents files.old) (C.read_faults files.old) (C.write_faults files.old)
         (C.sure_room files.old) (O.given out.old) (O.faults out.old))
         (outside (C.files files.new) (C.absents files.new) (C.read_faults files.new) (C.write_faults files.new)

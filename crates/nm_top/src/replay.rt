@@ -1,9 +1,10 @@
 //! The command `replay` with a schedule.
 
-ghost use Rattle.std.specs.Prelude.{◌≡◌, ◌+◌, ◌-◌, ◌≤◌, ◌++◌, List, [], length, IfSome, IfOk};
+ghost use Rattle.std.specs.Prelude.{◌≡◌, ℕ, ◌+◌, ◌-◌, ◌≤◌, ◌++◌, List, [], length, map, take, IfSome, IfOk, OnErr, Option};
 ghost use Rattle.nm_outside.specs.Files.{Files};
 ghost use Rattle.c_tree.specs.declared.program.Program.{Program};
 ghost use Rattle.stack_code.specs.View.{seen_code};
+ghost use Rattle.schedules.specs.declared.schedule.Turn.{Turn};
 ghost use Rattle.schedules.specs.Bounds.{AreFewTurns};
 ghost use Rattle.event_list.specs.declared.Event.{Event};
 ghost use Rattle.event_list.specs.Turns.{after};
@@ -18,9 +19,11 @@ ghost use Rattle.nm_top.specs.Commands as commands;
 ghost use Rattle.nm_top.specs.Schedules.{IsSchedule};
 ghost use Rattle.nm_top.specs.Demands.{AreReplayed, HoldsIn, IsFetched, schedule_file};
 ghost use Rattle.nm_top.specs.Answers.{demands_of};
-ghost use Rattle.nm_top.specs.Finishing.{replayed, replay_text};
-ghost use Rattle.nm_top.specs.private.Replaying.{ReplaysProgram};
-ghost use Rattle.nm_top.specs.private.Tellings.{IsText, Told};
+ghost use Rattle.nm_top.specs.Finishing.{replayed};
+ghost use Rattle.nm_top.specs.Watches.{call, given, watch_lines};
+ghost use Rattle.nm_top.specs.Heard.{Hears};
+ghost use Rattle.nm_top.specs.private.Replaying.{HasReplayed, ReplaysProgram};
+ghost use Rattle.nm_top.specs.private.Tellings.{HearsReplay, IsReplayWork, Told};
 ghost use Rattle.nm_top.specs.private.Works.{Carries, Counts, Gives, outside};
 
 use crate::fetch::schedule_in;
@@ -29,6 +32,7 @@ use crate::start::compiled;
 use crate::status::Status;
 use crate::stop::Stop;
 use crate::tell::tell;
+use crate::watching::{put_watchers, tell_each};
 use c_process::{CProc, seats_of};
 use mailboxes::OrderedMail;
 use nm_base::WantOfMemory;
@@ -39,6 +43,7 @@ use schedules::Schedule;
 use stack_code::Code;
 use std::alloc::Global;
 use trace_file::Trace;
+use watchers::Watcher;
 use world::{Turned, World};
 
 /// The replay of the code under the trace, before its first event.
@@ -74,9 +79,11 @@ fn replay_turns(
     schedule: &Schedule,
 ) -> Result<u32, WantOfMemory>
     requires turns { AreFewTurns (length replay.old.world.processes) schedule.now }
-    ensures { IfOk result (λ idle. (p : Program) (t : Content) → ReplaysProgram replay.old p t []
+    ensures made { IfOk result (λ idle. (p : Program) (t : Content) → ReplaysProgram replay.old p t []
         → ReplaysProgram replay.new p t (replayed p t schedule.now)
         × (idle ≡ length schedule.now - length (replayed p t schedule.now))) }
+    ensures began { OnErr result ((p : Program) (t : Content) → ReplaysProgram replay.old p t []
+        → (many : ℕ) × ReplaysProgram replay.new p t (replayed p t (take many schedule.now))) }
 {
     let mut idle = 0;
     for i in 0..schedule.turns() {
@@ -86,59 +93,48 @@ fn replay_turns(
     Ok(idle)
 }
 
-/// Prints the blocks and the summary of a replay, and the line of its turns.
-pub fn put_replay<O: Sink>(
+/// Prints the blocks and the summary of a replay, the line of its turns, and those of the watchers.
+pub fn put_replay<O: Sink, W: Watcher>(
     out: &mut O,
     world: &World<CProc<'_>, OrderedMail>,
     turns: u32,
     idle: u32,
+    watch: &Vec<W>,
 ) -> Result<(), Failed>
     ensures { (p : Program) (E : List Event) → RunsProgram world.now p E
         → Prints (O.given out.old) (O.given out.new) (O.faults out.old) (O.faults out.new)
-        (blocks p (length world.now.processes) E ++ turns_line turns idle) result }
+        (blocks p (length world.now.processes) E ++ turns_line turns idle
+        ++ watch_lines 0 (map W.watched watch.now.items)) result }
 {
     blocks(out, world)?;
-    turns_line(out, turns, idle)
+    turns_line(out, turns, idle)?;
+    put_watchers(out, watch)
 }
 
-// Replays the code by the turns of a schedule.
-fn replay_code<O: Sink>(
+// Tells the watchers of each event of a replay, and prints it where all turns were made.
+fn tell_replay<O: Sink, W: Watcher>(
     alloc: Global,
-    code: &Code,
-    trace: &Trace,
-    schedule: &Schedule,
+    replay: &Replay<CProc<'_>, OrderedMail>,
+    turns: u32,
+    idle: Result<u32, WantOfMemory>,
+    watch: &mut Vec<W>,
     out: &mut O,
 ) -> Status
-    requires trace { IsTrace trace.now }
-    requires turns { AreFewTurns trace.now.n schedule.now }
-    requires code { (p : Program) × IsCodeOf p (seen_code code.now) }
-    ensures { (p : Program) → IsCodeOf p (seen_code code.now)
-        → Told (IsText (replay_text p trace.now schedule.now))
+    ensures told { (p : Program) (t : Content) (ts : List Turn) → HasReplayed replay.now p t ts idle
+        → turns ≡ length ts → Told (IsReplayWork p t ts
+        (given (map W.watched watch.old.items) (map W.watched watch.new.items)))
         (O.given out.old) (O.given out.new) (O.faults out.old) (O.faults out.new) result }
+    ensures heard { (p : Program) (t : Content) (ts : List Turn) → HasReplayed replay.now p t ts idle
+        → HearsReplay p t ts (given (map W.watched watch.old.items) (map W.watched watch.new.items)) result }
 {
-    let Ok(mut replay) = begun(alloc, code, trace) else {
+    tell_each(alloc, watch, replay.events());
+    let Ok(idle) = idle else {
         return Status::WantOfMemory;
     };
-    let Ok(idle) = replay_turns(alloc, &mut replay, schedule) else {
-        return Status::WantOfMemory;
-    };
-    match put_replay(out, replay.world(), schedule.turns(), idle) {
+    match put_replay(out, replay.world(), turns, idle, watch) {
         Ok(()) => Status::Done,
         Err(_) => Status::WriteFault,
     }
-}
-
-// Compiles the program and replays it.
-fn replay_pair<O: Sink>(alloc: Global, pair: &Pair, schedule: &Schedule, out: &mut O) -> Status
-    requires trace { IsTrace pair.now.trace }
-    requires turns { AreFewTurns pair.now.trace.n schedule.now }
-    ensures { Told (IsText (replay_text pair.now.program pair.now.trace schedule.now))
-        (O.given out.old) (O.given out.new) (O.faults out.old) (O.faults out.new) result }
-{
-    let Ok(code) = compiled(alloc, &pair.program) else {
-        return Status::WantOfMemory;
-    };
-    replay_code(alloc, &code, &pair.trace, schedule, out)
 }
 
 /// What a replay with a schedule demands.
@@ -178,24 +174,37 @@ fn scheduled<'a, C: Cabinet>(
     }
 }
 
-/// Replays the program in a file under the trace in another by the turns of a schedule, and prints the processes'
-/// blocks, the summary and the line of its turns.
-pub fn replay<C: Cabinet, O: Sink>(
+/// Replays the program in a file under the trace in another by the turns of a schedule, tells the watchers of each
+/// event, and prints the processes' blocks, the summary, the line of its turns and those of the watchers.
+pub fn replay<C: Cabinet, O: Sink, W: Watcher>(
     alloc: Global,
     program: &str,
     trace: &str,
     schedule: &str,
     files: &mut C,
     out: &mut O,
+    watch: &mut Vec<W>,
 ) -> Status
-    ensures { Carries (commands.Replay program.now trace.now schedule.now)
+    ensures carries { (input : Option (List ℕ))
+        → Carries (call input (given (map W.watched watch.old.items) (map W.watched watch.new.items)))
+        (commands.Replay program.now trace.now schedule.now)
         (outside (C.files files.old) (C.absents files.old) (C.read_faults files.old) (C.write_faults files.old)
         (C.sure_room files.old) (O.given out.old) (O.faults out.old))
         (outside (C.files files.new) (C.absents files.new) (C.read_faults files.new) (C.write_faults files.new)
         (C.sure_room files.new) (O.given out.new) (O.faults out.new)) result }
+    ensures told { IfSome (C.files files.old) (λ held. Hears (commands.Replay program.now trace.now schedule.now) held
+        result (given (map W.watched watch.old.items) (map W.watched watch.new.items))) }
 {
-    match scheduled(alloc, program, trace, schedule, files) {
-        Ok(given) => replay_pair(alloc, &given.pair, &given.schedule, out),
-        Err(stop) => tell(out, &stop),
-    }
+    let input = match scheduled(alloc, program, trace, schedule, files) {
+        Ok(input) => input,
+        Err(stop) => return tell(out, &stop),
+    };
+    let Ok(code) = compiled(alloc, &input.pair.program) else {
+        return Status::WantOfMemory;
+    };
+    let Ok(mut replay) = begun(alloc, &code, &input.pair.trace) else {
+        return Status::WantOfMemory;
+    };
+    let idle = replay_turns(alloc, &mut replay, &input.schedule);
+    tell_replay(alloc, &replay, input.schedule.turns(), idle, watch, out)
 }

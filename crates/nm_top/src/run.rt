@@ -13,6 +13,7 @@ ghost use Rattle.nm_top.specs.Schedules.{IsSchedule};
 ghost use Rattle.nm_top.specs.Demands.{HoldsIn, IsFetched, program_file, schedule_file};
 ghost use Rattle.nm_top.specs.Runs.{run_demands, run_of_program};
 ghost use Rattle.nm_top.specs.private.Named.{AreFew};
+ghost use Rattle.nm_top.specs.Watches.{Call};
 ghost use Rattle.nm_top.specs.private.Works.{Carries, Counts, Gives, Tries, outside};
 
 use crate::fetch::{Source, program_in, schedule_in};
@@ -122,7 +123,7 @@ pub fn run<C: Cabinet, O: Sink>(
     out: &mut O,
 ) -> Status
     requires range { AreFew processes }
-    ensures { Carries (Run program.now processes schedule.now mask)
+    ensures { (x : Call) → Carries x (Run program.now processes schedule.now mask)
         (outside (C.files files.old) (C.absents files.old) (C.read_faults files.old) (C.write_faults files.old)
         (C.sure_room files.old) (O.given out.old) (O.faults out.old))
         (outside (C.files files.new) (C.absents files.new) (C.read_faults files.new) (C.write_faults files.new)

@@ -15,7 +15,7 @@ fn status_of(refused: &Refusal<'_>) -> Status
     match refused {
         Refusal::Usage => Status::Usage,
         Refusal::Absent { .. } => Status::Absent,
-        Refusal::ReadFault { .. } => Status::ReadFault,
+        Refusal::ReadFault { .. } | Refusal::InputFault => Status::ReadFault,
         Refusal::TooLong { .. } => Status::TooLong,
         Refusal::ProgramRefused { .. } => Status::ProgramRefused,
         Refusal::ScheduleRefused { .. } => Status::ScheduleRefused,
@@ -24,12 +24,14 @@ fn status_of(refused: &Refusal<'_>) -> Status
         Refusal::Stuck { .. } => Status::Stuck,
         Refusal::Stopped { .. } => Status::WantOfMemory,
         Refusal::NotItsTrace { .. } => Status::NotItsTrace,
+        Refusal::InputFull => Status::InputFull,
     }
 }
 
 /// Prints the line of what stopped a command, and answers its status. Want of memory has no line.
 pub fn tell<O: Sink>(out: &mut O, stop: &Stop<'_>) -> Status
-    ensures { Tells (work_of stop.now) (O.given out.old) (O.given out.new) (O.faults out.old) (O.faults out.new) result }
+    ensures { Tells (work_of stop.now) (O.given out.old) (O.given out.new) (O.faults out.old)
+        (O.faults out.new) result }
 {
     let Stop::Refused(refused) = stop else {
         return Status::WantOfMemory;

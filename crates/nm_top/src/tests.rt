@@ -1,8 +1,11 @@
-//! What no row through the top call can say: the exit codes, and what stands in a process or on a letter.
-//! The rows through the top call are stored in `crates/rows/data`.
+//! What no row through the top call can say: the exit codes, what stands in a process or on a letter, where a session
+//! goes back from, and what comes of a watcher that lacks memory. The rows through the top call are stored in
+//! `crates/rows/data`.
 
 mod clocks;
 mod inspections;
+mod kept_worlds;
+mod lacking_watchers;
 mod one_process;
 mod programs;
 
@@ -26,6 +29,7 @@ fn codes(rt: HostRuntime) -> Result<(), Fail> {
         (Status::Stuck, 10),
         (Status::WantOfMemory, 11),
         (Status::NotItsTrace, 12),
+        (Status::InputFull, 13),
     ];
     for (status, code) in table {
         assert_eq!(rt; status.code(), code);

@@ -6,6 +6,7 @@ ghost use Rattle.trace_file.specs.Bytes.{spelling};
 ghost use Rattle.trace_file.specs.Rules.{IsTrace};
 ghost use Rattle.nm_top.specs.Commands.{Upgrade};
 ghost use Rattle.nm_top.specs.private.Upgraded.{HasUpgraded};
+ghost use Rattle.nm_top.specs.Watches.{Call};
 ghost use Rattle.nm_top.specs.private.Works.{Carries, outside};
 
 use crate::fetch::trace_in;
@@ -54,7 +55,7 @@ pub fn upgrade<C: Cabinet, O: Sink>(
     files: &mut C,
     out: &mut O,
 ) -> Status
-    ensures { Carries (Upgrade trace.now new.now)
+    ensures { (x : Call) → Carries x (Upgrade trace.now new.now)
         (outside (C.files files.old) (C.absents files.old) (C.read_faults files.old) (C.write_faults files.old)
         (C.sure_room files.old) (O.given out.old) (O.faults out.old))
         (outside (C.files files.new) (C.absents files.new) (C.read_faults files.new) (C.write_faults files.new)

@@ -10,8 +10,8 @@ use Rattle.stack_code.specs.declared.instr.Instr.TheVariants as instr
 use Rattle.stack_code.specs.declared.code.Variable.{Variable}
 use Rattle.stack_code.specs.Code.{Placed, FunctionCode, Code, params_of, steps_of, steps_by}
 use Rattle.stack_code.specs.Machine.{conversions, text_at}
-use Rattle.stack_code.specs.Valid.{Operand, Value, Place, IsSound, is_within, is_fit_function, is_main, laid_out_from, words_of_all, words_of_variable, is_array_at, is_length, finds}
-use Rattle.stack_code.specs.Valid.{follows, follows_if_any, names_fit, go_on, pushed, taking, twice, swapped, is_single, values, operands_by, operands_of}
+use Rattle.stack_code.specs.Valid.{Operand, Value, Place, is_within, is_fit_function, is_main, laid_out_from, words_of_all, words_of_variable, is_array_at, is_length, finds}
+use Rattle.stack_code.specs.Valid.{follows, follows_if_any, names_fit, go_on, pushed, taking, values, operands_by, operands_of}
 use Rattle.stack_code.specs.Valid as valid
 use Rattle.proc_machine.specs.declared.execution.Execution.{Execution}
 use Rattle.proc_machine.specs.View.{control_of}

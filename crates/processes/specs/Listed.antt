@@ -28,10 +28,12 @@ is_end (kind ∷ kinds) = false
 
 -- whether a process that sent so many letters may make this event
 abbrev pub is_proper : ℕ → Kind → Bool
-is_proper sent (Sent number dest chan len words) = (number == sent) && (nat_lt chan 32 && (nat_lt 0 len && nat_le len 8))
+is_proper sent (Sent number dest chan len words) = (number == sent)
+    && (nat_lt chan 32 && (nat_lt 0 len && nat_le len 8))
 is_proper sent _ = true
 
 -- whether the events of a process that sent so many letters keep the laws of scripts
 abbrev pub are_proper : ℕ → List Kind → Bool
 are_proper sent [] = true
-are_proper sent (kind ∷ kinds) = is_proper sent kind && ((not (is_last kind) || is_end kinds) && are_proper (if is_send kind then sent + 1 else sent) kinds)
+are_proper sent (kind ∷ kinds) = is_proper sent kind
+    && ((not (is_last kind) || is_end kinds) && are_proper (if is_send kind then sent + 1 else sent) kinds)

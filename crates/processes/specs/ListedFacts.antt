@@ -31,7 +31,8 @@ add_one_if : (b : Bool) (n k : ℕ) → cond b (n + 1) n + k ≡ n + (cond b 1 0
 add_one_if true n k = omega arith
 add_one_if false n k = omega arith
 
-proper_at : (sent : ℕ) (kinds : List Kind) (k : ℕ) (x : Kind) → are_proper sent kinds ≡ true → slice_get kinds k ≡ Some x → is_proper (sent + sends_before kinds k) x ≡ true
+proper_at : (sent : ℕ) (kinds : List Kind) (k : ℕ) (x : Kind) → are_proper sent kinds ≡ true
+    → slice_get kinds k ≡ Some x → is_proper (sent + sends_before kinds k) x ≡ true
 unfolding sends_before
 proper_at sent [] k x h e = cc
 proper_at sent (y ∷ kinds) zero x h e =
@@ -44,7 +45,8 @@ proper_at sent (y ∷ kinds) (suc k) x h e =
     subst (λ n. is_proper n x ≡ true) (add_one_if (is_send y) sent (sends_before kinds k))
     (proper_at (cond (is_send y) (sent + 1) sent) kinds k x (and_parts _ _ (and_parts _ _ h).1).1 e)
 
-none_after : (b : Bool) (kinds : List Kind) → (not b || is_end kinds) ≡ true → b ≡ true → (j : ℕ) → slice_get kinds j ≡ None
+none_after : (b : Bool) (kinds : List Kind) → (not b || is_end kinds) ≡ true → b ≡ true → (j : ℕ)
+    → slice_get kinds j ≡ None
 none_after b [] h t j = refl
 none_after true (x ∷ kinds) h t j = absurd (false≢true h)
 none_after false (x ∷ kinds) h t j = absurd (false≢true t)
@@ -53,15 +55,18 @@ is_last_if : Option Kind → Bool
 is_last_if None = false
 is_last_if (Some kind) = is_last kind
 
-none_past : (sent : ℕ) (kinds : List Kind) (k j : ℕ) → are_proper sent kinds ≡ true → is_last_if (slice_get kinds k) ≡ true → k < j → slice_get kinds j ≡ None
+none_past : (sent : ℕ) (kinds : List Kind) (k j : ℕ) → are_proper sent kinds ≡ true
+    → is_last_if (slice_get kinds k) ≡ true → k < j → slice_get kinds j ≡ None
 unfolding is_last_if
 none_past sent [] k j h f l = refl
 none_past sent (x ∷ kinds) k zero h f l = absurd (omega (arith, l))
 none_past sent (x ∷ kinds) zero (suc j) h f l = none_after (is_last x) kinds (and_parts _ _ (and_parts _ _ h).1).0 f j
-none_past sent (x ∷ kinds) (suc k) (suc j) h f l = none_past (cond (is_send x) (sent + 1) sent) kinds k j (and_parts _ _ (and_parts _ _ h).1).1 f (omega (arith, l))
+none_past sent (x ∷ kinds) (suc k) (suc j) h f l = none_past (cond (is_send x) (sent + 1) sent) kinds k j
+    (and_parts _ _ (and_parts _ _ h).1).1 f (omega (arith, l))
 
 -- one more kind
-one_more : (kinds : List Kind) (k : ℕ) → sends_before kinds (suc k) ≡ sends_before kinds k + sends_if (slice_get kinds k)
+one_more : (kinds : List Kind) (k : ℕ)
+    → sends_before kinds (suc k) ≡ sends_before kinds k + sends_if (slice_get kinds k)
 unfolding sends_before sends_if
 one_more [] zero = refl
 one_more [] (suc k) = refl
@@ -98,7 +103,8 @@ no_accepting (Some (Printed bytes)) set id h = cc
 no_accepting (Some (Ended value)) set id h = cc
 no_accepting (Some (Faulted cause)) set id h = cc
 
-sends_of : (kinds : List Kind) (h : List Step) (x : Step) → StepFits (listed kinds) h x → length (filter (λ step. is_send (kind_in step)) (x ∷ [])) ≡ sends_if (slice_get kinds (length h))
+sends_of : (kinds : List Kind) (h : List Step) (x : Step) → StepFits (listed kinds) h x
+    → length (filter (λ step. is_send (kind_in step)) (x ∷ [])) ≡ sends_if (slice_get kinds (length h))
 unfolding sends_if
 sends_of kinds h (Made kind) f = by (is_send kind) ∙ sym (ap sends_if (goes_at (slice_get kinds (length h)) kind f))
   where
@@ -107,7 +113,8 @@ sends_of kinds h (Made kind) f = by (is_send kind) ∙ sym (ap sends_if (goes_at
     by false = refl
 sends_of kinds h (Took set m) f = sym (wants_no_send (slice_get kinds (length h)) set f.0)
 
-sends_in : (kinds : List Kind) {h : List Step} → IsHistory (listed kinds) h → length (filter (λ step. is_send (kind_in step)) h) ≡ sends_before kinds (length h)
+sends_in : (kinds : List Kind) {h : List Step} → IsHistory (listed kinds) h
+    → length (filter (λ step. is_send (kind_in step)) h) ≡ sends_before kinds (length h)
 unfolding sends_before
 sends_in kinds none = refl
 sends_in kinds (more {xs = h} {x = x} g f) =
@@ -118,33 +125,42 @@ sends_in kinds (more {xs = h} {x = x} g f) =
     ∙ sym (one_more kinds (length h))
     ∙ ap (sends_before kinds) (sym (length-append h (x ∷ []) ∙ add-one (length h)))
 
-last_of : (kinds : List Kind) (h : List Step) (x : Step) → StepFits (listed kinds) h x → is_last (kind_in x) ≡ true → is_last_if (slice_get kinds (length h)) ≡ true
+last_of : (kinds : List Kind) (h : List Step) (x : Step) → StepFits (listed kinds) h x → is_last (kind_in x) ≡ true
+    → is_last_if (slice_get kinds (length h)) ≡ true
 unfolding is_last_if
 last_of kinds h (Made kind) f l = ap is_last_if (goes_at (slice_get kinds (length h)) kind f) ∙ l
 last_of kinds h (Took set m) f l = absurd (false≢true l)
 
-last_in : (kinds : List Kind) {h : List Step} → IsHistory (listed kinds) h → (step : Step) → Contains h step → is_last (kind_in step) ≡ true → (k : ℕ) × (k < length h) × (is_last_if (slice_get kinds k) ≡ true)
+last_in : (kinds : List Kind) {h : List Step} → IsHistory (listed kinds) h → (step : Step) → Contains h step
+    → is_last (kind_in step) ≡ true → (k : ℕ) × (k < length h) × (is_last_if (slice_get kinds k) ≡ true)
 last_in kinds none step c l = absurd (omega (arith, c.1))
 last_in kinds (more {xs = h} {x = x} g f) step c l = elim (Contains-push_cases h x step c) [
   | inl o ↦ let r = last_in kinds g step o l in (r.0, omega (arith, r.1, length-append h (x ∷ [])), r.2)
-  | inr e ↦ (length h, omega (arith, length-append h (x ∷ [])), last_of kinds h x f (ap (λ s. is_last (kind_in s)) e ∙ l))
+  | inr e ↦
+      (length h, omega (arith, length-append h (x ∷ [])), last_of kinds h x f (ap (λ s. is_last (kind_in s)) e ∙ l))
 ]
 
 pub listed_lawful : (kinds : List Kind) → are_proper 0 kinds ≡ true → IsLawful (listed kinds)
 listed_lawful kinds proper = record {
   no_receive = λ h set id is n. no_accepting (slice_get kinds (length h)) set id n;
-  numbered = λ h number dest chan len words is n. eqb-true number _ (parts h number dest chan len words n).0 ∙ sym (sends_in kinds is);
+  numbered = λ h number dest chan len words is n.
+      eqb-true number _ (parts h number dest chan len words n).0 ∙ sym (sends_in kinds is);
   sized = λ h number dest chan len words is n.
       let p = and_parts _ _ (parts h number dest chan len words n).1 in
       let q = and_parts _ _ p.1 in
       (ltb-true chan 32 p.0, ltb-true 0 len q.0, leb-true len 8 q.1);
-  ends = λ h step is c l. let r = last_in kinds is step c l in ap next_of (none_past 0 kinds r.0 (length h) proper r.2 r.1);
+  ends = λ h step is c l. let r = last_in kinds is step c l in
+      ap next_of (none_past 0 kinds r.0 (length h) proper r.2 r.1);
 }
   where
-    parts : (h : List Step) (number : ℕ) (dest : ProcNo) (chan len : ℕ) (words : List ℕ) → next_of (slice_get kinds (length h)) ≡ Goes (Sent number dest chan len words) → ((number == sends_before kinds (length h)) ≡ true) × ((nat_lt chan 32 && (nat_lt 0 len && nat_le len 8)) ≡ true)
+    parts : (h : List Step) (number : ℕ) (dest : ProcNo) (chan len : ℕ) (words : List ℕ)
+        → next_of (slice_get kinds (length h)) ≡ Goes (Sent number dest chan len words)
+        → ((number == sends_before kinds (length h)) ≡ true)
+        × ((nat_lt chan 32 && (nat_lt 0 len && nat_le len 8)) ≡ true)
     parts h number dest chan len words n =
         and_parts _ _ (subst (λ k. is_proper k (Sent number dest chan len words) ≡ true) (omega arith)
-        (proper_at 0 kinds (length h) (Sent number dest chan len words) proper (goes_at (slice_get kinds (length h)) (Sent number dest chan len words) n)))
+        (proper_at 0 kinds (length h) (Sent number dest chan len words) proper
+        (goes_at (slice_get kinds (length h)) (Sent number dest chan len words) n)))
 
 shows_next : (o : Option Kind) → Shows (look_of o) (next_of o)
 shows_next None = tt
@@ -155,10 +171,12 @@ shows_next (Some (Printed bytes)) = tt
 shows_next (Some (Ended value)) = tt
 shows_next (Some (Faulted cause)) = tt
 
-pub listed_shows : (s : Script) (letters : List Message) (k n : ℕ) (kinds : List Kind) → s ≡ listed kinds → k ≡ n → Shows (look_of (slice_get kinds n)) (s.next letters k)
+pub listed_shows : (s : Script) (letters : List Message) (k n : ℕ) (kinds : List Kind) → s ≡ listed kinds → k ≡ n
+    → Shows (look_of (slice_get kinds n)) (s.next letters k)
 listed_shows s letters k n kinds h e =
     subst (λ (s : Script). Shows (look_of (slice_get kinds n)) (s.next letters k)) (sym h)
-    (subst (λ j. Shows (look_of (slice_get kinds n)) (next_of (slice_get kinds j))) (sym e) (shows_next (slice_get kinds n)))
+    (subst (λ j. Shows (look_of (slice_get kinds n)) (next_of (slice_get kinds j))) (sym e)
+    (shows_next (slice_get kinds n)))
 
 pub lawful_at : (s : Script) (kinds : List Kind) → s ≡ listed kinds → are_proper 0 kinds ≡ true → IsLawful s
 lawful_at s kinds h proper = subst IsLawful (sym h) (listed_lawful kinds proper)
@@ -173,7 +191,9 @@ able_goes (Some (Printed bytes)) kind e a = cc
 able_goes (Some (Ended value)) kind e a = cc
 able_goes (Some (Faulted cause)) kind e a = cc
 
-pub listed_makes : (kinds : List Kind) (n : ℕ) (kind : Kind) → slice_get kinds n ≡ Some kind → look_of (slice_get kinds n) ≡ Able → Makes (λ s letters k. (s ≡ listed kinds) × (k ≡ n)) (λ s letters k. (s ≡ listed kinds) × (k ≡ n + 1)) kind
+pub listed_makes : (kinds : List Kind) (n : ℕ) (kind : Kind) → slice_get kinds n ≡ Some kind
+    → look_of (slice_get kinds n) ≡ Able
+    → Makes (λ s letters k. (s ≡ listed kinds) × (k ≡ n)) (λ s letters k. (s ≡ listed kinds) × (k ≡ n + 1)) kind
 listed_makes kinds n kind at able s letters k h = (
   subst (λ (s : Script). s.next letters k ≡ Goes kind) (sym h.0)
       (subst (λ j. next_of (slice_get kinds j) ≡ Goes kind) (sym h.1) (able_goes (slice_get kinds n) kind at able)),
@@ -182,4 +202,5 @@ listed_makes kinds n kind at able s letters k h = (
 
 pub can_take : (look : Look) (l : Letter) (set : ℕ) → look ≡ Waiting set → set ≡ 1 → l.chan ≡ 0 → CanTake look l
 unfolding has_channel
-can_take look l set h e c = subst (λ look. CanTake look l) (sym h) (ap (λ set. has_channel set l.chan) e ∙ ap (has_channel 1) c)
+can_take look l set h e c = subst (λ look. CanTake look l) (sym h)
+    (ap (λ set. has_channel set l.chan) e ∙ ap (has_channel 1) c)

@@ -15,7 +15,8 @@ Standing = Script → List Message → ℕ → Type 0
 
 -- each script of the first standing makes this event next, and then is of the second
 abbrev pub Makes : Standing → Standing → Kind → Type 0
-Makes old new kind = (s : Script) (letters : List Message) (k : ℕ) → old s letters k → (s.next letters k ≡ Goes kind) × new s letters (k + 1)
+Makes old new kind = (s : Script) (letters : List Message) (k : ℕ) → old s letters k
+    → (s.next letters k ≡ Goes kind) × new s letters (k + 1)
 
 -- each script of the first standing is of the second once it accepted the letter
 abbrev pub Takes : Standing → Standing → Message → Type 0

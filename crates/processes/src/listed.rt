@@ -8,7 +8,8 @@ use crate::proc::{Look, Proc};
 use nm_base::{Kind, Letter, LetterId, ProcNo, Stamp, WantOfMemory};
 use std::alloc::Global;
 
-/// Goes through a list of kinds of events, whatever letters it accepts. An Accepted in it stands for a receive with its set, of any letter.
+/// Goes through a list of kinds of events, whatever letters it accepts. An Accepted in it stands for a receive
+/// with its set, of any letter.
 #[derive(Drop)]
 pub struct Listed {
     me: ProcNo,

@@ -85,7 +85,9 @@ pub trait Proc: Sized + Drop {
 
     ghost lawful: { (x : Self) (s : Script) (letters : List Message) (k : ℕ) → stands_for x s letters k → IsLawful s };
 
-    ghost shows: { (x : Self) (s : Script) (letters : List Message) (k : ℕ) → stands_for x s letters k → Shows (look_of x) (s.next letters k) };
+    ghost shows: { (x : Self) (s : Script) (letters : List Message) (k : ℕ) → stands_for x s letters k
+        → Shows (look_of x) (s.next letters k) };
 
-    ghost counts: { (x : Self) (s : Script) (letters : List Message) (k : ℕ) → stands_for x s letters k → k ≡ count_of x };
+    ghost counts: { (x : Self) (s : Script) (letters : List Message) (k : ℕ) → stands_for x s letters k
+        → k ≡ count_of x };
 }

@@ -30,7 +30,8 @@ IsStopped None schedule = Unit {0}
 IsStopped (Some many) schedule = many < length schedule
 
 -- the file is a front of the trace of the first turns, for some number of turns
-pub record IsCutOff (s : ℕ → Script) (f : Form) (schedule : List Turn) (name : List ℕ) (old new : Option Files) : Type 0 where
+pub record IsCutOff (s : ℕ → Script) (f : Form) (schedule : List Turn) (name : List ℕ) (old new : Option Files)
+    : Type 0 where
   pub turns : ℕ
   pub within : turns ≤ length schedule
   pub front : IsFrontOf f (run_of_first s f.mask turns schedule) name old new

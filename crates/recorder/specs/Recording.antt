@@ -41,7 +41,8 @@ holding files name bytes = option_map (λ fs. insert fs name bytes) files
 
 -- The trace of E was written: the named file is its spelling, where the files are told, and no other file changed. It
 -- has so many notes, lost letters and bytes.
-pub record IsRecorded (f : Form) (E : List Event) (name : List ℕ) (old new : Option Files) (notes lost bytes : ℕ) : Type 0 where
+pub record IsRecorded (f : Form) (E : List Event) (name : List ℕ) (old new : Option Files) (notes lost bytes : ℕ)
+    : Type 0 where
   pub content : Content
   pub is : IsContentOf f E content
   pub notes_are : notes ≡ length content.notes

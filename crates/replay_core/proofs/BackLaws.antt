@@ -9,14 +9,14 @@ use Rattle.processes.specs.Standing.{Standing}
 use Rattle.nm_base.specs.declared.limits.TheConstants.{MAX_EVENTS}
 use Rattle.event_list.specs.declared.Event.{Event}
 use Rattle.event_list.specs.Events.{count}
-use Rattle.event_list.specs.FirstPicks.{IsFirstPicked, FitsFirst, first_turn}
+use Rattle.event_list.specs.FirstPicks.{IsFirstPicked, first_turn}
 use Rattle.event_list.specs.Traces.{Trace}
 use Rattle.event_list.specs.Turns as turns
 use Rattle.event_list.specs.Turns.{Went, go, after}
 use Rattle.event_list.proofs.Splits.{prefix, last}
 use Rattle.world.specs.declared.world.Turned.{Turned}
 use Rattle.world.specs.Worlds.{Parts}
-use Rattle.world.specs.Outcomes.{HasTurned, outcome}
+use Rattle.world.specs.Outcomes.{HasTurned}
 use Rattle.replay_core.specs.Replaying.{Replaying, IsReplayOf}
 use Rattle.replay_core.specs.Backwards.{with_world}
 use Rattle.replay_core.specs.Gates.{Gating, gate_lets_go}

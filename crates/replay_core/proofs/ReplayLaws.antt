@@ -10,7 +10,7 @@ use Rattle.event_list.specs.declared.Event.{Event}
 use Rattle.event_list.specs.Events.{count, messages}
 use Rattle.event_list.specs.Traces.{Trace, IsReplay}
 use Rattle.event_list.specs.Turns as turns
-use Rattle.event_list.specs.Turns.{Stays, Went, go, after, all_below, all_reached, sum_below}
+use Rattle.event_list.specs.Turns.{Went, go, after, all_below, all_reached, sum_below}
 use Rattle.event_list.specs.Rules.{Rule, rule_of, go_under}
 use Rattle.event_list.proofs.RuleFacts.{turn_rule}
 use Rattle.event_list.proofs.TurnFacts.{turn_replays}

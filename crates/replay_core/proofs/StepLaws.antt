@@ -6,7 +6,7 @@ use Rattle.nm_base.specs.Scripts.{Script}
 use Rattle.processes.specs.Standing.{Standing}
 use Rattle.event_list.specs.declared.Event.{Event}
 use Rattle.event_list.specs.Traces.{Trace}
-use Rattle.event_list.specs.Turns.{Idle, Stays, Went, Turned, all_reached, after}
+use Rattle.event_list.specs.Turns.{Idle, Stays, Went, all_reached, after}
 use Rattle.event_list.specs.Turns as turns
 use Rattle.nm_base.specs.declared.letter.Letter.{Letter}
 use Rattle.std.specs.Prelude.{Option}

@@ -10,6 +10,7 @@ ghost use Rattle.replay_core.specs.declared.finish.ReplayFault.{ReplayFault};
 ghost use Rattle.replay_core.specs.Replaying.{IsReplayOf, IsSameRun, HasFinished, HasFailed};
 ghost use Rattle.replay_core.specs.private.Rounds.{HasRounded};
 
+use crate::asleep::Asleep;
 use crate::replay::Replay;
 use crate::round::Round;
 use mailboxes::Mail;
@@ -82,13 +83,19 @@ fn go_round<P: Proc, M: Mail>(
     let n = replay.n();
     let most = replay.enough_turns();
     let mut round = Round::begin();
-    for i in 0..most {
+    let mut asleep = Asleep::none();
+    while round.turns < most {
         if is_over(replay, &round) {
             return Ok(round);
         }
-        let t = round.next_turn();
-        let turned = replay.turn(alloc, t)?;
-        round = round.after(n, &turned);
+        if asleep.has(round.next) {
+            round = round.after_sleepers(n, most, &asleep);
+        } else {
+            let t = round.next_turn();
+            let turned = replay.turn(alloc, t)?;
+            asleep.note(t.proc, &turned);
+            round = round.after(n, &turned);
+        }
     }
     Ok(round)
 }

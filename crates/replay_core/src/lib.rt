@@ -4,6 +4,7 @@
 //! can go on.
 #![tactic(auto)]
 
+mod asleep;
 mod back;
 mod finish;
 mod gate;

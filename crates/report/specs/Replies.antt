@@ -22,7 +22,8 @@ use Rattle.report.specs.Texts.{hex_digits, letter_after, cause_name, status_text
 -- a letter of process p that was sent
 abbrev pub sent_text : ℕ → ℕ → ℕ → ℕ → List ℕ
 sent_text p number dest chan =
-    codes "sent " ++ decimal p ++ codes "." ++ decimal number ++ codes " to " ++ decimal dest ++ codes " on " ++ decimal chan
+    codes "sent " ++ decimal p ++ codes "." ++ decimal number ++ codes " to " ++ decimal dest ++ codes " on "
+    ++ decimal chan
 
 abbrev pub accepted_text : LetterId → ℕ → List ℕ
 accepted_text id set = letter_after (codes "accepted ") id ++ codes " set 0x" ++ hex_digits set

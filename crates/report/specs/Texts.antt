@@ -12,7 +12,7 @@ use Rattle.processes.specs.declared.proc.Look.TheVariants.{Able, Waiting, Ended,
 use Rattle.cut_witness.specs.declared.certificates.Witness.{Witness}
 use Rattle.cut_witness.specs.declared.certificates.WitnessTurn.{WitnessTurn}
 use Rattle.report.specs.declared.cause.Refusal.{Refusal}
-use Rattle.report.specs.declared.cause.Refusal.TheVariants.{Usage, Absent, ReadFault, TooLong, ProgramRefused, ScheduleRefused, TraceDamaged, OtherProgram, Stuck, Stopped, NotItsTrace}
+use Rattle.report.specs.declared.cause.Refusal.TheVariants.{Usage, Absent, ReadFault, InputFault, TooLong, ProgramRefused, ScheduleRefused, TraceDamaged, OtherProgram, Stuck, Stopped, NotItsTrace, InputFull}
 
 -- the lower-case hexadecimal digit for the four bits of a number from bit `low` on
 abbrev pub digit_of : ℕ → ℕ
@@ -120,7 +120,8 @@ received_text (Some number) = codes ", receive " ++ decimal number ++ codes "\n"
 
 -- where a letter went, `== letter S.K to D on C`
 abbrev pub went_text : LetterId → ℕ → ℕ → List ℕ
-went_text id dest chan = letter_after (codes "== letter ") id ++ codes " to " ++ decimal dest ++ codes " on " ++ decimal chan
+went_text id dest chan = letter_after (codes "== letter ") id ++ codes " to " ++ decimal dest ++ codes " on "
+    ++ decimal chan
 
 abbrev pub letter_line : LetterId → ℕ → ℕ → Option ℕ → List ℕ
 letter_line id dest chan received = went_text id dest chan ++ received_text received
@@ -128,7 +129,8 @@ letter_line id dest chan received = went_text id dest chan ++ received_text rece
 -- `earlier receive Q, event E, set SET`
 abbrev pub earlier_line : ℕ → ℕ → ℕ → List ℕ
 earlier_line receive event set =
-    codes "earlier receive " ++ decimal receive ++ codes ", event " ++ decimal event ++ codes ", set 0x" ++ hex_digits set ++ codes "\n"
+    codes "earlier receive " ++ decimal receive ++ codes ", event " ++ decimal event ++ codes ", set 0x"
+    ++ hex_digits set ++ codes "\n"
 
 -- the letter that a turn accepts, behind its process
 abbrev pub took_after : List ℕ → Option LetterId → List ℕ
@@ -145,7 +147,8 @@ taken_turns turns = (codes "turns" ++ flat_map turn_text turns) ++ codes "\n"
 -- the three lines of a certificate
 abbrev pub certificate : Witness → List ℕ
 certificate w =
-    (letter_line w.id w.dest.no w.chan w.received ++ earlier_line w.earlier_receive w.earlier_event w.set) ++ taken_turns w.turns
+    (letter_line w.id w.dest.no w.chan w.received ++ earlier_line w.earlier_receive w.earlier_event w.set)
+    ++ taken_turns w.turns
 
 abbrev pub certificates_line : ℕ → List ℕ
 certificates_line number = number_line (codes "== certificates ") number (codes "\n")
@@ -168,6 +171,13 @@ absent_line name = name_line (codes "absent: ") name
 
 abbrev pub read_fault_line : List ℕ → List ℕ
 read_fault_line name = name_line (codes "read fault: ") name
+
+-- for the input of a debugger
+abbrev pub input_fault_line : List ℕ
+input_fault_line = codes "read fault: input\n"
+
+abbrev pub input_full_line : List ℕ
+input_full_line = codes "input full\n"
 
 abbrev pub too_long_line : List ℕ → List ℕ
 too_long_line name = name_line (codes "too long: ") name
@@ -192,7 +202,8 @@ progress_text events counts p = codes " " ++ decimal (get_or events p 0) ++ code
 
 -- how far each of n processes came
 abbrev pub stuck_line : ℕ → List ℕ → List ℕ → List ℕ
-stuck_line n events counts = (codes "stuck:" ++ flat_map (progress_text events counts) (range_with_len 0 n)) ++ codes "\n"
+stuck_line n events counts = (codes "stuck:" ++ flat_map (progress_text events counts) (range_with_len 0 n))
+    ++ codes "\n"
 
 abbrev pub not_its_trace_line : LetterId → List ℕ
 not_its_trace_line id = letter_after (codes "not its trace: letter ") id ++ codes "\n"
@@ -201,6 +212,7 @@ abbrev pub refusal_line : Refusal → List ℕ
 refusal_line Usage = usage_line
 refusal_line (Absent name) = absent_line name.now
 refusal_line (ReadFault name) = read_fault_line name.now
+refusal_line InputFault = input_fault_line
 refusal_line (TooLong name) = too_long_line name.now
 refusal_line (ProgramRefused kind line) = program_refused_line kind.now line
 refusal_line (ScheduleRefused kind place) = schedule_refused_line kind.now place
@@ -209,3 +221,4 @@ refusal_line (OtherProgram of_trace of_file) = other_program_line of_trace of_fi
 refusal_line (Stuck n events counts) = stuck_line n events counts
 refusal_line (Stopped turns) = stopped_line turns
 refusal_line (NotItsTrace letter) = not_its_trace_line letter
+refusal_line InputFull = input_full_line

@@ -15,6 +15,8 @@ pub enum Refusal<'a> {
     ReadFault {
         name: &'a str,
     },
+    /// The input of a debugger can't be read.
+    InputFault,
     /// The file passes its limit.
     TooLong {
         name: &'a str,
@@ -53,4 +55,6 @@ pub enum Refusal<'a> {
     NotItsTrace {
         letter: LetterId,
     },
+    /// The input of a debugger is too long.
+    InputFull,
 }

@@ -74,6 +74,7 @@ pub fn refusal<O: Sink>(out: &mut O, r: &Refusal<'_>) -> Result<(), Failed>
         Refusal::Usage => put_pieces(out, &[b"usage\n"]),
         Refusal::Absent { name } => put_name(out, b"absent: ", name),
         Refusal::ReadFault { name } => put_name(out, b"read fault: ", name),
+        Refusal::InputFault => put_pieces(out, &[b"read fault: input\n"]),
         Refusal::TooLong { name } => put_name(out, b"too long: ", name),
         Refusal::ProgramRefused { kind, line } => {
             put_kind(out, b"program refused: ", kind, b" at line ", *line)
@@ -88,5 +89,6 @@ pub fn refusal<O: Sink>(out: &mut O, r: &Refusal<'_>) -> Result<(), Failed>
         Refusal::Stuck { n, events, counts } => put_stuck(out, *n, events, counts),
         Refusal::Stopped { turns } => stopped_line(out, *turns),
         Refusal::NotItsTrace { letter } => put_letter(out, b"not its trace: letter ", letter),
+        Refusal::InputFull => put_pieces(out, &[b"input full\n"]),
     }
 }

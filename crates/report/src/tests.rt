@@ -74,6 +74,7 @@ fn lines(rt: HostRuntime) -> Result<(), Fail> {
         (Refusal::Usage, "usage\n"),
         (Refusal::Absent { name: "G" }, "absent: G\n"),
         (Refusal::ReadFault { name: "G" }, "read fault: G\n"),
+        (Refusal::InputFault, "read fault: input\n"),
         (Refusal::TooLong { name: "G" }, "too long: G\n"),
         (
             Refusal::ProgramRefused {
@@ -122,6 +123,7 @@ fn lines(rt: HostRuntime) -> Result<(), Fail> {
             },
             "not its trace: letter 1.0\n",
         ),
+        (Refusal::InputFull, "input full\n"),
     ];
     for (refused, text) in table {
         let mut out = sink(alloc)?;

@@ -17,6 +17,8 @@ pub enum Fault {
     Digits,
     /// No status has that name.
     Status,
+    /// No watcher has that name.
+    Watcher,
     /// The line stands where it can't.
     Place,
     /// The file of the table couldn't be read, or nothing could be printed.
@@ -32,6 +34,7 @@ impl fmt::Display for Fault {
             Fault::Name => write!(f, "no bytes of that name"),
             Fault::Digits => write!(f, "no pairs of hexadecimal digits"),
             Fault::Status => write!(f, "no status of that name"),
+            Fault::Watcher => write!(f, "no watcher of that name"),
             Fault::Place => write!(f, "a line that can't stand here"),
             Fault::Outside => write!(f, "reading or printing failed"),
             Fault::Memory => write!(f, "out of memory"),

@@ -1,6 +1,7 @@
 //! What a line of a table says.
 
 use crate::fault::Fault;
+use crate::setup::WatcherName;
 use nm_outside::{CabinetCall, CabinetFail, SinkFail};
 use nm_top::Status;
 
@@ -28,6 +29,8 @@ pub enum Piece<'a> {
 pub enum Fail {
     Cabinet(CabinetFail),
     Sink(SinkFail),
+    /// The take of this number.
+    Source(u32),
 }
 
 /// A line. One that begins bytes may have their first piece with it.
@@ -53,7 +56,14 @@ pub enum Line<'a> {
         name: &'a str,
         first: Option<Piece<'a>>,
     },
+    Input {
+        first: Option<Piece<'a>>,
+    },
+    Takes {
+        count: u32,
+    },
     Fails(Fail),
+    Watch(WatcherName),
     Call {
         words: &'a str,
     },
@@ -87,7 +97,11 @@ pub fn line_of(text: &str) -> Result<Line<'_>, Fault> {
         "sink" => Ok(Line::Sink {
             count: number(rest)?,
         }),
+        "takes" => Ok(Line::Takes {
+            count: number(rest)?,
+        }),
         "fails" => Ok(Line::Fails(fail_of(rest)?)),
+        "watch" => Ok(Line::Watch(watcher_of(rest)?)),
         "call" => Ok(Line::Call { words: rest }),
         "ends" => Ok(Line::Ends(status_of(rest)?)),
         "lacks" => Ok(Line::Lacks { name: rest.trim() }),
@@ -119,6 +133,9 @@ fn line_with_bytes<'a>(word: &'a str, rest: &'a str) -> Result<Line<'a>, Fault> 
                 first: first_piece(rest)?,
             })
         }
+        "input" => Ok(Line::Input {
+            first: first_piece(rest)?,
+        }),
         "prints" => Ok(Line::Prints {
             first: first_piece(rest)?,
         }),
@@ -184,6 +201,7 @@ fn fail_of(text: &str) -> Result<Fail, Fault> {
     let kept = number(kept)?;
     let call = match kind {
         "put" => return Ok(Fail::Sink(SinkFail { nth, kept })),
+        "take" => return Ok(Fail::Source(nth)),
         "fetch" => CabinetCall::Fetch,
         "begin" => CabinetCall::Begin,
         "append" => CabinetCall::Append,
@@ -191,6 +209,15 @@ fn fail_of(text: &str) -> Result<Fail, Fault> {
         _ => return Err(Fault::Line),
     };
     Ok(Fail::Cabinet(CabinetFail { call, nth, kept }))
+}
+
+fn watcher_of(name: &str) -> Result<WatcherName, Fault> {
+    match name.trim() {
+        "KindCount" => Ok(WatcherName::KindCount),
+        "FaultStop" => Ok(WatcherName::FaultStop),
+        "LetterLog" => Ok(WatcherName::LetterLog),
+        _ => Err(Fault::Watcher),
+    }
 }
 
 fn status_of(name: &str) -> Result<Status, Fault> {
@@ -208,6 +235,7 @@ fn status_of(name: &str) -> Result<Status, Fault> {
         "Stuck" => Ok(Status::Stuck),
         "WantOfMemory" => Ok(Status::WantOfMemory),
         "NotItsTrace" => Ok(Status::NotItsTrace),
+        "InputFull" => Ok(Status::InputFull),
         _ => Err(Fault::Status),
     }
 }

@@ -1,7 +1,7 @@
 //! A row, and how it is carried out.
 
 use crate::fault::Fault;
-use crate::setup::Setup;
+use crate::setup::{MAX_WATCHERS, Setup};
 use crate::shown::shown;
 use nm_outside::{ListSink, MemCabinet};
 use nm_top::{Status, racetrace};
@@ -43,7 +43,19 @@ impl Row {
             let fails = Vec::from_slice(alloc, &setup.sink_fails)?;
             let mut out = ListSink::new(alloc, setup.sink_room, fails)?;
             let words = call.separate_words(alloc)?;
-            let status = racetrace(alloc, &words, &mut files, &mut out);
+            let mut watching = self.setup.watching(alloc)?;
+            if watching.len() > MAX_WATCHERS {
+                return Err(Fault::Place);
+            }
+            let mut input = self.setup.source(alloc)?;
+            let status = racetrace(
+                alloc,
+                &words,
+                &mut files,
+                &mut input,
+                &mut out,
+                &mut watching,
+            );
             call.compare_status(status, &mut told)?;
             call.compare_printed(alloc, out.bytes(), &mut told)?;
             call.compare_files(alloc, &files, &mut told)?;

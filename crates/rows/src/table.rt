@@ -28,6 +28,7 @@ enum Place {
     Nowhere,
     Named(String),
     File(String),
+    Input,
     Printed,
     Left(String),
 }
@@ -105,7 +106,12 @@ impl Reader {
                 self.setup()?.sink_room = count;
                 Ok(())
             }
+            Line::Takes { count } => {
+                self.setup()?.piece = count;
+                Ok(())
+            }
             Line::Fails(fail) => self.setup()?.fail(fail),
+            Line::Watch(watcher) => self.setup()?.watch(watcher),
             _ => self.read_of_call(line),
         }
     }
@@ -131,6 +137,7 @@ impl Reader {
         let (place, first) = match line {
             Line::Bytes { name, first } => (Place::Named(self.text(name)?), first),
             Line::File { name, first } => (Place::File(self.text(name)?), first),
+            Line::Input { first } => (Place::Input, first),
             Line::Prints { first } => (Place::Printed, first),
             Line::Leaves { name, first } => (Place::Left(self.text(name)?), first),
             _ => return Err(Fault::Line),
@@ -207,6 +214,7 @@ impl Reader {
             Place::Nowhere => {}
             Place::Named(name) => self.named.push(Named { name, bytes })?,
             Place::File(name) => self.setup()?.hold(name, bytes)?,
+            Place::Input => self.setup()?.input = bytes,
             Place::Printed => self.call()?.printed = Some(bytes),
             Place::Left(name) => {
                 let bytes = Some(bytes);

@@ -117,7 +117,8 @@ spelled w = spelled_by (position is_mark w) w
 abbrev pub admitted_entry : ℕ → ℕ → ℕ → Option Entry → Result Entry ScheduleFault
 admitted_entry n made place None = Err (BadWord place)
 admitted_entry n made place (Some e) =
-    if nat_lt e.proc n then (if nat_le (made + e.times) 1000000 then Ok e else Err (TooMany place)) else Err (NoProcess place)
+    if nat_lt e.proc n then (if nat_le (made + e.times) 1000000 then Ok e else Err (TooMany place))
+    else Err (NoProcess place)
 
 abbrev pub admitted : ℕ → ℕ → Word → Result Entry ScheduleFault
 admitted n made w = admitted_entry n made w.place (spelled w.bytes)
@@ -129,7 +130,8 @@ followed e (Err fault) = Err fault
 -- what the words spell after so many turns, or what is wrong with the first bad one
 abbrev pub entries : ℕ → ℕ → List Word → Result (List Entry) ScheduleFault
 entries n made [] = Ok []
-entries n made (w ∷ ws) = elim (admitted n made w) as (λ r. Result (List Entry) ScheduleFault) [ Ok e ↦ followed e (entries n (made + e.times) ws) | Err fault ↦ Err fault ]
+entries n made (w ∷ ws) = elim (admitted n made w) as (λ r. Result (List Entry) ScheduleFault)
+    [ Ok e ↦ followed e (entries n (made + e.times) ws) | Err fault ↦ Err fault ]
 
 abbrev pub turn_of : Entry → Turn
 turn_of e = record { proc = record { no = e.proc }; pick = e.pick }

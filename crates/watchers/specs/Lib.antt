@@ -1,4 +1,5 @@
 pub mod Watched
 pub mod Lines
 pub mod Kinds
+pub mod Any
 pub mod private

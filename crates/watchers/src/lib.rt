@@ -1,6 +1,7 @@
 //! Watchers: they are told of events, say one line, and may stop a debugger.
 #![tactic(auto)]
 
+mod any_watcher;
 mod fault_stop;
 mod kind_count;
 mod letter_log;
@@ -10,6 +11,7 @@ mod telling;
 mod tests;
 mod watcher;
 
+pub use any_watcher::AnyWatcher;
 pub use fault_stop::FaultStop;
 pub use kind_count::KindCount;
 pub use letter_log::LetterLog;

@@ -8,9 +8,9 @@ use crate::watcher::Watcher;
 use event_list::Event;
 use std::alloc::Global;
 
-/// Tells each.
-pub fn tell(alloc: Global, list: &mut Vec<Box<dyn Watcher>>, e: &Event) -> usize
-    ensures { Told (e.now ∷ []) (map watched list.old.items) (map watched list.new.items) result }
+/// Tells each of an event.
+pub fn tell<W: Watcher>(alloc: Global, list: &mut Vec<W>, e: &Event) -> usize
+    ensures { Told (e.now ∷ []) (map W.watched list.old.items) (map W.watched list.new.items) result }
 {
     let mut dropped = 0;
     let mut i = 0;
@@ -26,9 +26,9 @@ pub fn tell(alloc: Global, list: &mut Vec<Box<dyn Watcher>>, e: &Event) -> usize
 }
 
 /// Drops one.
-pub fn detach(list: &mut Vec<Box<dyn Watcher>>, k: u32) -> bool
+pub fn detach<W: Watcher>(list: &mut Vec<W>, k: u32) -> bool
     ensures none { result ≡ nat_lt k (length list.old.items) }
-    ensures detached { result ≡ true → map watched list.new.items ≡ remove (map watched list.old.items) k }
+    ensures detached { result ≡ true → map W.watched list.new.items ≡ remove (map W.watched list.old.items) k }
     ensures same { result ≡ false → list.new.items ≡ list.old.items }
 {
     let k = k as usize;
@@ -40,10 +40,10 @@ pub fn detach(list: &mut Vec<Box<dyn Watcher>>, k: u32) -> bool
 }
 
 /// Tells one watcher, and answers whether it noted the event.
-fn tell_one(alloc: Global, w: &mut Box<dyn Watcher>, e: &Event) -> bool
-    ensures noted { result ≡ true → watched w.new ≡ told (watched w.old) e.now }
-    ensures lacked { result ≡ false → watched w.new ≡ watched w.old }
-    ensures steady { result ≡ false → (watched w.old).kind.steady ≡ false }
+fn tell_one<W: Watcher>(alloc: Global, w: &mut W, e: &Event) -> bool
+    ensures noted { result ≡ true → W.watched w.new ≡ told (W.watched w.old) e.now }
+    ensures lacked { result ≡ false → W.watched w.new ≡ W.watched w.old }
+    ensures steady { result ≡ false → (W.watched w.old).kind.steady ≡ false }
 {
     w.see(alloc, e).is_ok()
 }

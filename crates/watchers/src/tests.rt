@@ -1,11 +1,11 @@
-//! A few events, told to the three watchers and to one that lacks memory.
+//! A few events, told to lists of the three watchers and of one that lacks memory.
 
 ghost use Rattle.std.specs.Prelude.{◌+◌, ◌<◌, [], ◌∷◌, false, slice_index};
 ghost use Rattle.watchers.specs.Lines.{IsLine};
 ghost use Rattle.watchers.specs.Watched.{WatcherKind};
 
 use crate::note::{Note, empty};
-use crate::{FaultStop, KindCount, LetterLog, Watcher, detach, tell};
+use crate::{AnyWatcher, FaultStop, KindCount, LetterLog, Watcher, detach, tell};
 use event_list::Event;
 use nm_base::{FaultCause, Kind, LetterId, ProcNo, WantOfMemory};
 use std::alloc::Global;
@@ -83,7 +83,7 @@ fn faulted() -> Kind {
 }
 
 /// Whether the k-th watcher says this.
-fn says(list: &Vec<Box<dyn Watcher>>, k: usize, text: &[u8]) -> bool {
+fn says(list: &Vec<AnyWatcher>, k: usize, text: &[u8]) -> bool {
     match list.get(k) {
         Some(w) => {
             let note = w.line();
@@ -94,37 +94,34 @@ fn says(list: &Vec<Box<dyn Watcher>>, k: usize, text: &[u8]) -> bool {
 }
 
 /// Whether the k-th watcher stops.
-fn stops(list: &Vec<Box<dyn Watcher>>, k: usize) -> bool {
+fn stops(list: &Vec<AnyWatcher>, k: usize) -> bool {
     match list.get(k) {
         Some(w) => w.stop(),
         None => false,
     }
 }
 
-/// Each watcher notes what it is for. One that lacks memory is dropped at its third event, and the
-/// others stay in their order.
+/// Each watcher notes what it is for.
 #[test]
 fn notes_events(rt: HostRuntime) -> Result<(), Fail> {
     let alloc = rt.alloc();
-    let mut list: Vec<Box<dyn Watcher>> = Vec::new(alloc);
-    list.push(Box::new(alloc, KindCount::new())?)?;
-    list.push(Box::new(alloc, NotesTwo { seen: 0 })?)?;
-    list.push(Box::new(alloc, LetterLog::new(alloc)?)?)?;
-    list.push(Box::new(alloc, FaultStop::new())?)?;
-    for (kind, dropped, faults, stop) in [
-        (Kind::Line { line: 3 }, 0, 3, false),
-        (accepted(0), 0, 3, false),
-        (faulted(), 1, 2, true),
-        (sent(), 0, 2, false),
-        (accepted(1), 0, 2, false),
-        (Kind::Printed { bytes: 4 }, 0, 2, false),
-        (Kind::Ended { value: -1 }, 0, 2, false),
-        (faulted(), 0, 2, true),
+    let mut list = Vec::new(alloc);
+    list.push(AnyWatcher::Kinds(KindCount::new()))?;
+    list.push(AnyWatcher::Letters(LetterLog::new(alloc)?))?;
+    list.push(AnyWatcher::Faults(FaultStop::new()))?;
+    for (kind, stop) in [
+        (Kind::Line { line: 3 }, false),
+        (accepted(0), false),
+        (faulted(), true),
+        (sent(), false),
+        (accepted(1), false),
+        (Kind::Printed { bytes: 4 }, false),
+        (Kind::Ended { value: -1 }, false),
+        (faulted(), true),
     ] {
-        assert_eq!(rt; tell(alloc, &mut list, &event(kind)), dropped);
-        assert_eq!(rt; stops(&list, faults), stop);
+        assert_eq!(rt; tell(alloc, &mut list, &event(kind)), 0);
+        assert_eq!(rt; stops(&list, 2), stop);
     }
-    assert_eq!(rt; list.len(), 3);
     assert!(rt;
         says(
             &list,
@@ -137,13 +134,29 @@ fn notes_events(rt: HostRuntime) -> Result<(), Fail> {
     Ok(())
 }
 
+/// Those that lack memory are dropped, and the others stay in their order.
+#[test]
+fn drops_those_that_lack_memory(rt: HostRuntime) -> Result<(), Fail> {
+    let alloc = rt.alloc();
+    let mut list = Vec::new(alloc);
+    for seen in [0, 2, 1, 2] {
+        list.push(NotesTwo { seen })?;
+    }
+    for (dropped, left, first) in [(2, 2, 1), (1, 1, 2), (1, 0, 0), (0, 0, 0)] {
+        assert_eq!(rt; tell(alloc, &mut list, &event(sent())), dropped);
+        assert_eq!(rt; list.len(), left);
+        assert_eq!(rt; list.get(0).map_or(0, |w| w.seen), first);
+    }
+    Ok(())
+}
+
 /// The k-th watcher is dropped, where there is one.
 #[test]
 fn detaches_the_kth(rt: HostRuntime) -> Result<(), Fail> {
     let alloc = rt.alloc();
-    let mut list: Vec<Box<dyn Watcher>> = Vec::new(alloc);
-    list.push(Box::new(alloc, FaultStop::new())?)?;
-    list.push(Box::new(alloc, LetterLog::new(alloc)?)?)?;
+    let mut list = Vec::new(alloc);
+    list.push(AnyWatcher::Faults(FaultStop::new()))?;
+    list.push(AnyWatcher::Letters(LetterLog::new(alloc)?))?;
     assert_eq!(rt; tell(alloc, &mut list, &event(faulted())), 0);
     for (k, detached, left) in [
         (2, false, 2),

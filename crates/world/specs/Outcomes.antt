@@ -35,14 +35,17 @@ abbrev pub CarriesIt : List Event → Turned → Type 0
 CarriesIt E (turned.Idle why) = Unit {0}
 CarriesIt E (turned.Went event letter) = Carries E event letter
 
--- the turn that it took is that of the definitions under the mask and the rule, and it stands for the events with what happened
-pub record HasTurned {P M : Type 0} (stands_for : P → Standing) (mask : ℕ) (rule : Rule) (w : Parts P M) (s : ℕ → Script) (E : List Event) (t : turns.Turn) (what : Turned) : Type 0 where
+-- the turn that it took is that of the definitions under the mask and the rule, and it stands for the events with
+-- what happened
+pub record HasTurned {P M : Type 0} (stands_for : P → Standing) (mask : ℕ) (rule : Rule) (w : Parts P M)
+    (s : ℕ → Script) (E : List Event) (t : turns.Turn) (what : Turned) : Type 0 where
   pub is : go_under s mask rule E t ≡ outcome what
   pub stands : IsWorldOf stands_for w s (turns.after E (outcome what))
   pub carries : CarriesIt (turns.after E (outcome what)) what
 
 -- the process p made its next event
-pub record HasMade {P M : Type 0} (stands_for : P → Standing) (w : Parts P M) (s : ℕ → Script) (E : List Event) (p : ℕ) (what : Turned) : Type 0 where
+pub record HasMade {P M : Type 0} (stands_for : P → Standing) (w : Parts P M) (s : ℕ → Script) (E : List Event)
+    (p : ℕ) (what : Turned) : Type 0 where
   pub kind : Kind
   pub next : (s p).next (messages E p) (count E p) ≡ Goes kind
   pub is : turns.Went (turns.next_event E p kind) ≡ outcome what
@@ -50,9 +53,11 @@ pub record HasMade {P M : Type 0} (stands_for : P → Standing) (w : Parts P M) 
   pub carries : CarriesIt (turns.after E (outcome what)) what
 
 -- the process p, which wants a letter on a channel of the set, accepted the one that the pick names, if any is allowed
-pub record HasAccepted {P M : Type 0} (stands_for : P → Standing) (mask : ℕ) (rule : Rule) (w : Parts P M) (s : ℕ → Script) (E : List Event) (p set pick : ℕ) (what : Turned) : Type 0 where
+pub record HasAccepted {P M : Type 0} (stands_for : P → Standing) (mask : ℕ) (rule : Rule) (w : Parts P M)
+    (s : ℕ → Script) (E : List Event) (p set pick : ℕ) (what : Turned) : Type 0 where
   pub next : (s p).next (messages E p) (count E p) ≡ Wants set
-  pub is : turns.taking E p set (slice_get (allowed_under mask rule E p set) (pick % length (allowed_under mask rule E p set))) ≡ outcome what
+  pub is : turns.taking E p set
+      (slice_get (allowed_under mask rule E p set) (pick % length (allowed_under mask rule E p set))) ≡ outcome what
   pub stands : IsWorldOf stands_for w s (turns.after E (outcome what))
   pub carries : CarriesIt (turns.after E (outcome what)) what
 

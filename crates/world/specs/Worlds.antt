@@ -3,7 +3,7 @@ use Rattle.std.specs.Prelude.{◌≡◌, ℕ, ◌<◌, ◌≤◌, List, length, 
 use Rattle.nm_base.specs.declared.letter.ProcNo.{ProcNo}
 use Rattle.nm_base.specs.declared.letter.Stamp.{Stamp}
 use Rattle.nm_base.specs.declared.letter.Letter.{Letter}
-use Rattle.nm_base.specs.Message.{Message, message_of}
+use Rattle.nm_base.specs.Message.{message_of}
 use Rattle.nm_base.specs.Scripts.{Script, letter_made}
 use Rattle.processes.specs.Standing.{Standing}
 use Rattle.vector_clocks.specs.Parts.{part, part_of}
@@ -15,7 +15,8 @@ use Rattle.event_list.specs.Clocks.{clocks}
 use Rattle.event_list.specs.Laws.{AreLawful}
 use Rattle.world.specs.Moves.{stamped}
 
--- what a contract sees of a world: its processes by number, its mail with the waiting letters and the mask of ordered channels,
+-- what a contract sees of a world: its processes by number, its mail with the waiting letters and the mask of
+-- ordered channels,
 -- the clocks, how many letters each process accepted, and how many letters were sent and accepted and events happened
 pub record Parts (P M : Type 0) : Type 0 where
   pub processes : List P
@@ -40,7 +41,8 @@ pub record IsPosted (E : List Event) (l : Letter) : Type 0 where
   pub is : l ≡ stamped l.posted l.stamp unposted
 
 -- the world stands for the scripts s, one for each process, after the events E
-pub record IsWorldOf {P M : Type 0} (stands_for : P → Standing) (w : Parts P M) (s : ℕ → Script) (E : List Event) : Type 0 where
+pub record IsWorldOf {P M : Type 0} (stands_for : P → Standing) (w : Parts P M) (s : ℕ → Script) (E : List Event)
+    : Type 0 where
   pub lawful : AreLawful s
   pub run : IsRun s w.mask E
   pub below : (e : Event) → Contains E e → e.proc.no < length w.processes
@@ -57,13 +59,15 @@ pub record IsWorldOf {P M : Type 0} (stands_for : P → Standing) (w : Parts P M
 
 -- whatever the first world stands for, the second stands for it, too
 abbrev pub StandsForAll : {P M : Type 0} → (P → Standing) → Parts P M → Parts P M → Type 0
-StandsForAll stands_for w v = (s : ℕ → Script) (E : List Event) → IsWorldOf stands_for w s E → IsWorldOf stands_for v s E
+StandsForAll stands_for w v = (s : ℕ → Script) (E : List Event) → IsWorldOf stands_for w s E
+    → IsWorldOf stands_for v s E
 
 -- the i-th process has number i
 abbrev pub AreNumbered : {P : Type 0} → (P → ProcNo) → List P → Type 0
 AreNumbered {P} name_of ps = (p : ℕ) (x : P) → slice_get ps p ≡ Some x → name_of x ≡ record { no = p }
 
--- what holds of every world: it has 1 to 32 processes, at most 1,000,000 events happened, and it stands for some scripts and events
+-- what holds of every world: it has 1 to 32 processes, at most 1,000,000 events happened, and it stands for some
+-- scripts and events
 pub record IsWorld {P M : Type 0} (stands_for : P → Standing) (name_of : P → ProcNo) (w : Parts P M) : Type 0 where
   pub some : 0 < length w.processes
   pub few : length w.processes ≤ 32

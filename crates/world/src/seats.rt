@@ -97,7 +97,9 @@ impl<P: Proc> Seats<P> {
 
 /// Seats for copies of the processes in these.
 fn copies<P: Proc>(alloc: Global, seats: &[Seat<P>]) -> Result<Vec<Seat<P>>, WantOfMemory>
-    ensures { IfOk result (λ s. AreCopies P.stands_for P.name_of P.origin_of (map process_in seats.now) (map process_in s.items) (length seats.now)) }
+    ensures { IfOk result
+        (λ s. AreCopies P.stands_for P.name_of P.origin_of
+        (map process_in seats.now) (map process_in s.items) (length seats.now)) }
 {
     let mut copies = Vec::new(alloc);
     for seat in seats {
@@ -132,7 +134,8 @@ fn step_seat<P: Proc>(
 ) -> (Seat<P>, Result<(Kind, Option<Letter>), WantOfMemory>)
     requires able { P.look_of (process_in seat) ≡ Look.Able }
     requires room { P.count_of (process_in seat) < 1000000 }
-    ensures made { IfOk result.1 (λ r. Makes (P.stands_for (process_in seat)) (P.stands_for (process_in result.0)) r.0) }
+    ensures made { IfOk result.1
+        (λ r. Makes (P.stands_for (process_in seat)) (P.stands_for (process_in result.0)) r.0) }
     ensures letter { IfOk result.1 (λ r. r.1 ≡ letter_made (P.name_of (process_in seat)) r.0) }
     ensures refused { OnErr result.1 (Stays (P.stands_for (process_in seat)) (P.stands_for (process_in result.0))) }
     ensures name { P.name_of (process_in result.0) ≡ P.name_of (process_in seat) }

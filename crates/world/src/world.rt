@@ -96,10 +96,12 @@ impl<P: Proc, M: Mail> World<P, M> {
         requires some { 0 < length seats.items }
         requires few { length seats.items ≤ 32 }
         requires names { AreNumbered P.name_of (map process_in seats.items) }
-        requires begins { (p : ℕ) (x : P) → slice_get (map process_in seats.items) p ≡ Some x → (s : Script) × P.stands_for x s [] 0 }
+        requires begins { (p : ℕ) (x : P) → slice_get (map process_in seats.items) p ≡ Some x
+            → (s : Script) × P.stands_for x s [] 0 }
         ensures processes { IfOk result (λ w. w.processes ≡ map process_in seats.items) }
         ensures mask { IfOk result (λ w. w.mask ≡ mask) }
-        ensures stands { IfOk result (λ w. (s : ℕ → Script) → Begins P.stands_for (map process_in seats.items) s → IsWorldOf P.stands_for w s []) }
+        ensures stands { IfOk result (λ w. (s : ℕ → Script) → Begins P.stands_for (map process_in seats.items) s
+            → IsWorldOf P.stands_for w s []) }
     {
         let mail = M::empty(alloc, mask)?;
         let clocks = Clocks::new(seats.len() as u8);
@@ -124,8 +126,11 @@ impl<P: Proc, M: Mail> World<P, M> {
         gate: &G,
     ) -> Result<Turned, WantOfMemory>
         requires process { t.proc.no < length self.old.processes }
-        requires room { (x : P) → slice_get self.old.processes t.proc.no ≡ Some x → G.lets_go gate.now t.proc.no (P.count_of x) ≡ true → self.old.events < 1000000 }
-        ensures turned { IfOk result (λ what. (s : ℕ → Script) (E : List Event) → IsWorldOf P.stands_for self.old s E → HasTurned P.stands_for self.old.mask (record { lets = G.lets gate.now; lets_go = G.lets_go gate.now }) self.new s E (record { proc = t.proc.no; pick = t.pick }) what) }
+        requires room { (x : P) → slice_get self.old.processes t.proc.no ≡ Some x
+            → G.lets_go gate.now t.proc.no (P.count_of x) ≡ true → self.old.events < 1000000 }
+        ensures turned { IfOk result (λ what. (s : ℕ → Script) (E : List Event) → IsWorldOf P.stands_for self.old s E
+            → HasTurned P.stands_for self.old.mask (record { lets = G.lets gate.now; lets_go = G.lets_go gate.now })
+            self.new s E (record { proc = t.proc.no; pick = t.pick }) what) }
         ensures refused { OnErr result (StandsForAll P.stands_for self.old self.new) }
         ensures size { length self.new.processes ≡ length self.old.processes }
         ensures origins { map P.origin_of self.new.processes ≡ map P.origin_of self.old.processes }
@@ -193,7 +198,8 @@ impl<P: Proc, M: Mail> World<P, M> {
     /// The clock of the process: it counts the past of its last event.
     pub fn clock(&self, p: ProcNo) -> &Stamp
         requires { p.no < length self.now.processes }
-        ensures { (s : ℕ → Script) (E : List Event) → IsWorldOf P.stands_for self.now s E → (q : ℕ) → part result.now q ≡ (clocks E).clock p.no q }
+        ensures { (s : ℕ → Script) (E : List Event) → IsWorldOf P.stands_for self.now s E → (q : ℕ)
+            → part result.now q ≡ (clocks E).clock p.no q }
     {
         self.clocks.stamp(p)
     }
@@ -247,7 +253,8 @@ impl<P: Proc, M: Mail> World<P, M> {
         requires process { p.no < length self.old.processes }
         requires able { (x : P) → slice_get self.old.processes p.no ≡ Some x → P.look_of x ≡ Look.Able }
         requires room { self.old.events < 1000000 }
-        ensures made { IfOk result (λ what. (s : ℕ → Script) (E : List Event) → IsWorldOf P.stands_for self.old s E → HasMade P.stands_for self.new s E p.no what) }
+        ensures made { IfOk result (λ what. (s : ℕ → Script) (E : List Event) → IsWorldOf P.stands_for self.old s E
+            → HasMade P.stands_for self.new s E p.no what) }
         ensures refused { OnErr result (StandsForAll P.stands_for self.old self.new) }
         ensures size { length self.new.processes ≡ length self.old.processes }
         ensures origins { map P.origin_of self.new.processes ≡ map P.origin_of self.old.processes }
@@ -273,7 +280,9 @@ impl<P: Proc, M: Mail> World<P, M> {
         requires process { t.proc.no < length self.old.processes }
         requires waiting { (x : P) → slice_get self.old.processes t.proc.no ≡ Some x → P.look_of x ≡ Look.Waiting set }
         requires room { self.old.events < 1000000 }
-        ensures accepted { (s : ℕ → Script) (E : List Event) → IsWorldOf P.stands_for self.old s E → HasAccepted P.stands_for self.old.mask (record { lets = G.lets gate.now; lets_go = G.lets_go gate.now }) self.new s E t.proc.no set t.pick result }
+        ensures accepted { (s : ℕ → Script) (E : List Event) → IsWorldOf P.stands_for self.old s E
+            → HasAccepted P.stands_for self.old.mask (record { lets = G.lets gate.now; lets_go = G.lets_go gate.now })
+            self.new s E t.proc.no set t.pick result }
         ensures size { length self.new.processes ≡ length self.old.processes }
         ensures origins { map P.origin_of self.new.processes ≡ map P.origin_of self.old.processes }
         ensures mask { self.new.mask ≡ self.old.mask }
@@ -330,7 +339,8 @@ fn post<M: Mail>(
     requires room { 0 < M.spare mail.old }
     requires last { (w : Letter) → Contains (M.letters mail.old) w → w.posted < sent }
     requires few { sent < 1000000 }
-    requires unnamed { (l : Letter) → letter ≡ Some l → (w : Letter) → Contains (M.letters mail.old) w → is_named l.id w ≡ false }
+    requires unnamed { (l : Letter) → letter ≡ Some l → (w : Letter) → Contains (M.letters mail.old) w
+        → is_named l.id w ≡ false }
     ensures letter { result.0 ≡ option_map (stamped sent stamp) letter }
     ensures posted { M.letters mail.new ≡ M.letters mail.old ++ option_to_list result.0 }
     ensures order { M.ordered mail.new ≡ M.ordered mail.old }

@@ -13,7 +13,7 @@ use Rattle.stack_code.specs.declared.instr.Instr.{Instr}
 use Rattle.stack_code.specs.declared.instr.Instr.TheVariants as instr
 use Rattle.c_compile.specs.Asm.{Asm, Laid, one, end_of, ◌⨾◌, lay}
 use Rattle.c_compile.specs.ExprCode as spec
-use Rattle.c_compile.specs.ExprCode.{Shape, TypedCode, typed_code, expr_code}
+use Rattle.c_compile.specs.ExprCode.{Shape, typed_code, expr_code}
 use Rattle.c_compile.specs.StmtCode.{Blocks, Exits, shape, stmt_code, arm_code, sequence_code, sequence_ends, zeros, starts}
 use Rattle.c_compile.specs.StmtCode.{arms_code, arms_ends, arms_cases, cases_code, place_of_label, switch_code}
 use Rattle.c_compile.specs.declared.scope.Scope.{Scope}

@@ -54,7 +54,8 @@ abbrev pub recorded_work : Option ℕ → List ℕ → Work
 recorded_work None text = Whole text
 recorded_work (Some many) text = Short (stopped_line many)
 
--- The recording was made and told. A write to the file fails where it says so, and not where it was sure of enough room.
+-- The recording was made and told. A write to the file fails where it says so, and not where it was sure of enough
+-- room.
 pub record HasRecorded (w : ToRecord) (p : Program) (digest : List ℕ) (turns : List Turn) (before after : Outside)
     (status : Status) : Type 0 where
   pub work : Work

@@ -1,5 +1,5 @@
 -- What stops a command, what a part of its work gives, and what is told of the whole.
-use Rattle.std.specs.Prelude.{◌≡◌, ◌⊎◌, ℕ, List, [], Bool, true, false, Result, Ok, Err, Option, Some, IfSome, ⊤}
+use Rattle.std.specs.Prelude.{◌≡◌, ◌⊎◌, ℕ, List, [], ◌++◌, Bool, true, false, Result, Ok, Err, Option, Some, IfSome, ⊤}
 use Rattle.std.specs.Io.KnownBytes.{Appends}
 use Rattle.nm_outside.specs.Causes.{Rose, BelongsTo}
 use Rattle.nm_outside.specs.Files.{Files, AppendsPart}
@@ -10,12 +10,13 @@ use Rattle.nm_top.specs.declared.status.Status.{Status}
 use Rattle.nm_top.specs.declared.status.Status.TheVariants as statuses
 use Rattle.nm_top.specs.declared.stop.Stop.{Stop}
 use Rattle.nm_top.specs.declared.stop.Stop.TheVariants.{Refused, Memory}
-use Rattle.nm_top.specs.Commands.{Command}
-use Rattle.nm_top.specs.Statuses.{status_of, IsOf}
+use Rattle.nm_top.specs.Commands.{Command, Debug}
+use Rattle.nm_top.specs.Statuses.{status_of, IsOf, IsOfInput}
 use Rattle.nm_top.specs.Replies.{Reply, reply, KeepsOthers}
 use Rattle.nm_top.specs.Demands.{Demand, Fetch, IsMissing, IsPastLimit, IsFetched, refusal_of}
 use Rattle.nm_top.specs.Answers.{CommandAnswer, Demanding, IsReason, IsBroken, IsEnough, demands_of, written_of}
 use Rattle.nm_top.specs.Lines.{MayStopAt}
+use Rattle.nm_top.specs.Watches.{Call}
 
 -- ---- what stops a command
 
@@ -101,11 +102,12 @@ Gives P demands files (Err stop) = Stops (Demanding demands Nothing files) files
 
 -- ---- the whole
 
--- How a command's work ended: it was done, and has this text; it was refused; there was want of memory behind this
--- text; or a write to a file failed.
+-- How a command's work ended: it was done, and has this text; it was refused, or it was behind this text; there was
+-- want of memory behind this text; or a write to a file failed.
 pub data Work : Type 0 where
   Whole : List ℕ → Work
   Refusing : Refusal → Work
+  Ending : List ℕ → Refusal → Work
   Short : List ℕ → Work
   Broken : Work
 
@@ -117,14 +119,25 @@ work_of Memory = Short []
 abbrev pub work_status : Work → Status
 work_status (Whole text) = statuses.Done
 work_status (Refusing r) = status_of r
+work_status (Ending text r) = status_of r
 work_status (Short text) = statuses.WantOfMemory
 work_status Broken = statuses.WriteFault
 
 abbrev pub work_text : Work → List ℕ
 work_text (Whole text) = text
 work_text (Refusing r) = refusal_line r
+work_text (Ending text r) = text ++ refusal_line r
 work_text (Short text) = text
 work_text Broken = []
+
+-- whether a read of a file failed, or a take of the input
+abbrev pub is_read_fault : Work → Bool
+is_read_fault (Ending text r) = false
+is_read_fault work = is_fault (work_status work)
+
+abbrev pub is_take_fault : Work → Bool
+is_take_fault (Ending text r) = is_fault (status_of r)
+is_take_fault work = false
 
 abbrev pub is_broken : Work → Bool
 is_broken Broken = true
@@ -136,10 +149,16 @@ Works allowed broken left Broken = (files : Files) × (left ≡ Some files) × b
 Works allowed broken left work =
     (files : Files) × (left ≡ Some files) × allowed (reply (work_status work) (work_text work) files)
 
+-- a refusal that a command may print behind a text
+abbrev pub MayEnd : Command → Refusal → Type 0
+MayEnd (Debug program trace) r = IsOfInput r
+MayEnd command r = ⊥
+
 -- A refusal names no file, or one that the command fetches, and want of memory comes behind a text that it may print.
 abbrev pub IsWorkOf : Command → Work → Type 0
 IsWorkOf command (Whole text) = ⊤
 IsWorkOf command (Refusing r) = IsOf (IsFetched (demands_of command)) r
+IsWorkOf command (Ending text r) = MayEnd command r
 IsWorkOf command (Short text) = MayStopAt (Some command) text
 IsWorkOf command Broken = ⊤
 
@@ -183,13 +202,19 @@ pub record Writes (enough : Files → ℕ → Type 0) (before after : Outside) (
       (λ held. (room : ℕ) → before.room ≡ Some room → enough held room → is_broken work ≡ false)
 
 -- A command was carried out: it did some work that is allowed for the files, where they are told, and told it.
-pub record Carries (command : Command) (before after : Outside) (status : Status) : Type 0 where
+pub record Carries (x : Call) (command : Command) (before after : Outside) (status : Status) : Type 0 where
   pub work : Work
   pub works : IfSome before.files
-      (λ held. Works (CommandAnswer command held) (IsBroken command held) after.files work)
+      (λ held. Works (CommandAnswer x command held) (IsBroken command held) after.files work)
   pub keeps : KeepsOthers (written_of command) before.files after.files
   pub is_work : IsWorkOf command work
   pub absent : BelongsTo (is_absence (work_status work)) before.absents after.absents
-  pub failed : BelongsTo (is_fault (work_status work)) before.reads after.reads
+  pub failed : BelongsTo (is_read_fault work) before.reads after.reads
   pub writes : Writes (IsEnough command) before after work
   pub tells : Tells work before.given after.given before.faults after.faults status
+
+-- The same, with how often a take of the input had failed before and after it.
+pub record CarriesOut (x : Call) (command : Command) (before after : Outside) (takes takes' : ℕ) (status : Status)
+    : Type 0 where
+  pub carries : Carries x command before after status
+  pub took : BelongsTo (is_take_fault carries.work) takes takes'

@@ -18,7 +18,7 @@ use std::test::Fail;
 /// What is seen of a process: its look, the number of its events, its line and how many bytes it printed.
 type Shown = (Look, u32, u32, usize);
 
-const FOR_EVER: &str = "int main(void) { for (;;) {} }";
+pub(super) const FOR_EVER: &str = "int main(void) { for (;;) {} }";
 
 /// The code of a program text.
 pub(super) fn code_of(alloc: Global, text: &str) -> Result<Code, Fail>

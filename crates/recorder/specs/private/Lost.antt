@@ -24,7 +24,8 @@ abbrev pub AreLogged : ℕ → List Event → List Letter → List LetterId → 
 AreLogged mask E letters names = Keeps (IsLoggedName mask E) (map (λ l. l.id) letters) names
 
 -- so many letters of E were written as lost, and these letters are left to look at
-pub record IsGoing (f : Form) (at : Place) (w : TraceWriter) (files : Option Files) (open_name : List ℕ) (notes lost : ℕ) (E : List Event) (rest : List Letter) : Type 0 where
+pub record IsGoing (f : Form) (at : Place) (w : TraceWriter) (files : Option Files) (open_name : List ℕ)
+    (notes lost : ℕ) (E : List Event) (rest : List Letter) : Type 0 where
   pub list : List AcceptNote
   pub written : List LetterId
   pub left : List LetterId

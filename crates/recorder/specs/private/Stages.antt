@@ -38,7 +38,8 @@ pub record IsHeld (at : Place) (files : Option Files) (open_name : List ℕ) (by
   pub name_is : IsSome files → open_name ≡ at.name
 
 -- the tracer was told of the receives in E, and what was written is the front of its trace up to so many notes
-pub record IsNoted (f : Form) (at : Place) (t : Tables) (w : TraceWriter) (files : Option Files) (open_name : List ℕ) (notes : ℕ) (E : List Event) : Type 0 where
+pub record IsNoted (f : Form) (at : Place) (t : Tables) (w : TraceWriter) (files : Option Files) (open_name : List ℕ)
+    (notes : ℕ) (E : List Event) : Type 0 where
   pub tracer : IsTracerOf t E
   pub list : List AcceptNote
   pub are_notes : AreNotes f.mask E list
@@ -47,7 +48,8 @@ pub record IsNoted (f : Form) (at : Place) (t : Tables) (w : TraceWriter) (files
   pub held : IsHeld at files open_name (front (content_in f list []))
 
 -- A recording before its first turn: for some scripts the world stands for no events, and the tracer was told of none.
-pub record IsBegun {P M : Type 0} (stands_for : P → Standing) (world : Parts P M) (t : Tables) (w : TraceWriter) (files : Option Files) (open_name : List ℕ) : Type 0 where
+pub record IsBegun {P M : Type 0} (stands_for : P → Standing) (world : Parts P M) (t : Tables) (w : TraceWriter)
+    (files : Option Files) (open_name : List ℕ) : Type 0 where
   pub form : Form
   pub at : Place
   pub scripts : ℕ → Script
@@ -57,12 +59,15 @@ pub record IsBegun {P M : Type 0} (stands_for : P → Standing) (world : Parts P
   pub noted : IsNoted form at t w files open_name 0 []
 
 -- The world stands for E, and the notes are those of E.
-pub record IsAfter {P M : Type 0} (stands_for : P → Standing) (world : Parts P M) (s : ℕ → Script) (f : Form) (at : Place) (t : Tables) (w : TraceWriter) (files : Option Files) (open_name : List ℕ) (notes : ℕ) (E : List Event) : Type 0 where
+pub record IsAfter {P M : Type 0} (stands_for : P → Standing) (world : Parts P M) (s : ℕ → Script) (f : Form)
+    (at : Place) (t : Tables) (w : TraceWriter) (files : Option Files) (open_name : List ℕ) (notes : ℕ)
+    (E : List Event) : Type 0 where
   pub world_is : IsWorldOf stands_for world s E
   pub noted : IsNoted f at t w files open_name notes E
 
 -- what was written is the front of the trace of E, with so many notes and lost letters
-pub record IsWritten (f : Form) (at : Place) (w : TraceWriter) (files : Option Files) (open_name : List ℕ) (notes lost : ℕ) (E : List Event) : Type 0 where
+pub record IsWritten (f : Form) (at : Place) (w : TraceWriter) (files : Option Files) (open_name : List ℕ)
+    (notes lost : ℕ) (E : List Event) : Type 0 where
   pub list : List AcceptNote
   pub names : List LetterId
   pub are_notes : AreNotes f.mask E list

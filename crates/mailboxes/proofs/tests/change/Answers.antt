@@ -1,5 +1,4 @@
-use Rattle.std.proofs.Common.{◌+◌, subst, arith}
-use Rattle.mailboxes.specs.Numbered.{AreBelow}
+use Rattle.std.proofs.Common.{◌+◌, arith}
 use Rattle.mailboxes.proofs.NumberedFacts.{later}
 use Rattle.mailboxes.proofs.tests.change.Goals as goal
 

@@ -1,4 +1,3 @@
-use Rattle.std.proofs.Common.{Option, Some, None, refl, sym, ap, ◌∙◌}
 use Rattle.mailboxes.proofs.NumberedFacts.{named_there, if_named}
 use Rattle.mailboxes.proofs.tests.picked.Goals as goal
 

@@ -20,3 +20,6 @@ returns-in-TraceDamaged g c = rw c.in-TraceDamaged.is c.put_kind-in-TraceDamaged
 
 pub returns-in-NotItsTrace : goal.returns-in-NotItsTrace
 returns-in-NotItsTrace g c = rw c.in-NotItsTrace.is c.put_letter.ensures
+
+pub returns-in-InputFault : goal.returns-in-InputFault
+returns-in-InputFault g c = rw c.in-InputFault.is c.put_pieces-in-InputFault.ensures

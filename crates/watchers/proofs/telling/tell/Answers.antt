@@ -14,9 +14,9 @@ loop-i-preserved-then-tell_one g c =
     let lt : c.loop-i.i < length c.loop-i.list.items = search rules in
     let noted =
     c.if-tell_one.ensures.noted refl
-    ∙ ap (λ b. told ((goal.Watcher-dyn g (b.vtable, b.value)).watched b.value) c.args.e.now)
+    ∙ ap (λ b. told (g.W.Watcher.watched b) c.args.e.now)
     c.index_mut.ensures.value in (
-      tellings.one_noted (λ b. (goal.Watcher-dyn g (b.vtable, b.value)).watched b.value)
+      tellings.one_noted g.W.Watcher.watched
           c.loop-i.list.items c.index_mut.result.now c.tell_one.new.w c.loop-i.invariant.0 lt noted,
       c.loop-i.invariant.1,
     )
@@ -26,18 +26,18 @@ loop-i-preserved g c =
     let lt : c.loop-i.i < length c.loop-i.list.items = search rules in
     let same =
     c.if-tell_one.ensures.lacked refl
-    ∙ ap (λ b. (goal.Watcher-dyn g (b.vtable, b.value)).watched b.value) c.index_mut.ensures.value in
+    ∙ ap g.W.Watcher.watched c.index_mut.ensures.value in
     let loose =
-    ap (λ b. ((goal.Watcher-dyn g (b.vtable, b.value)).watched b.value).kind.steady)
+    ap (λ b. (g.W.Watcher.watched b).kind.steady)
     (sym c.index_mut.ensures.value)
     ∙ c.if-tell_one.ensures.steady refl in
     let told =
-    tellings.one_lacked (λ b. (goal.Watcher-dyn g (b.vtable, b.value)).watched b.value)
+    tellings.one_lacked g.W.Watcher.watched
     c.loop-i.list.items c.index_mut.result.now c.tell_one.new.w c.loop-i.invariant.0 lt same loose in (
       subst (λ items.
           IsTelling c.args.e.now
-          (map (λ b. (goal.Watcher-dyn g (b.vtable, b.value)).watched b.value) c.args.list.now.items)
-          (map (λ b. (goal.Watcher-dyn g (b.vtable, b.value)).watched b.value) items) c.loop-i.i (c.loop-i.dropped + 1))
+          (map g.W.Watcher.watched c.args.list.now.items)
+          (map g.W.Watcher.watched items) c.loop-i.i (c.loop-i.dropped + 1))
           (sym c.remove.ensures.items) told,
       omega (arith, c.loop-i.invariant.1, c.remove.ensures.len),
     )

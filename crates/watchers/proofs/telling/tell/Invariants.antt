@@ -6,8 +6,8 @@ use Rattle.watchers.proofs.telling.tell.Given as goal
 
 abbrev pub invariant-loop-i : goal.invariant-loop-i
 invariant-loop-i g l =
-    IsTelling l.e (map (λ b. (goal.Watcher-dyn g (b.vtable, b.value)).watched b.value) l.fn.list.items)
-    (map (λ b. (goal.Watcher-dyn g (b.vtable, b.value)).watched b.value) l.list.items) l.i l.dropped
+    IsTelling l.e (map g.W.Watcher.watched l.fn.list.items)
+    (map g.W.Watcher.watched l.list.items) l.i l.dropped
     × (l.dropped + vec_len l.list ≡ vec_len l.fn.list)
 
 abbrev pub decreases-loop-i : goal.decreases-loop-i

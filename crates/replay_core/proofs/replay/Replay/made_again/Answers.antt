@@ -2,7 +2,7 @@ use Rattle.std.proofs.Common.{◌≡◌, take, sym, ap, ◌∙◌, arith, refl, 
 use Rattle.std.specs.Prelude.{slice_get}
 use Rattle.event_list.specs.Events.{count, messages}
 use Rattle.replay_core.specs.Replaying.{IsReplayOf}
-use Rattle.replay_core.specs.Backwards.{IsWayBack, GoesBack, with_world}
+use Rattle.replay_core.specs.Backwards.{GoesBack, with_world}
 use Rattle.replay_core.proofs.BackLaws.{made_room, made_process, made_next}
 use Rattle.replay_core.proofs.replay.Replay.made_again.Goals as goal
 

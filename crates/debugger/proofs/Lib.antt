@@ -1,0 +1,15 @@
+pub mod WordFacts
+pub mod RowFacts
+pub mod Growing
+pub mod Noting
+pub mod Ends
+pub mod Replying
+pub mod Running
+pub mod PlaceFacts
+pub mod WatchFacts
+pub mod LookFacts
+pub mod MailFacts
+pub mod Walks
+pub mod GoingBack
+pub mod GoingTo
+pub mod MovedReplies

@@ -1,0 +1,24 @@
+use Rattle.std.proofs.Common.{length, Some, sym, ap, ◌∙◌}
+use Rattle.c_tree.specs.Play.{script_of}
+use Rattle.event_list.specs.Events.{count, messages}
+use Rattle.c_process.specs.Shown.{output_after}
+use Rattle.c_process.specs.contracts.script.CProcProc.TheImpl as impl
+use Rattle.report.specs.Replies.{output_text}
+use Rattle.report.proofs.Pieces.{same_text}
+use Rattle.report.proofs.Shown.{its_script, its_code, its_own}
+use Rattle.debugger.proofs.looks.put_output.Goals as goal
+
+pub returns-clause-text : goal.returns-clause-text
+returns-clause-text g c = λ program E k.
+    let p = c.args.p.no in
+    let n = length c.args.world.now.processes in
+    let x = c.process.result.now in
+    let seen = sym c.process.ensures.process in
+    let at = c.seat.ensures.process ∙ ap Some seen in
+    let name = ap impl.name_of-value.it (sym seen) ∙ c.seat.ensures.name in
+    let s = its_script _ program E k p x at name in
+    let code = its_code _ program E k p x at name in
+    same_text _ _ _ _ _ _ _
+    (ap output_text (c.output.ensures program (script_of program n p) (messages E p) (count E p) code s
+    ∙ its_own _ program E k p x at name output_after))
+    c.output_text.ensures

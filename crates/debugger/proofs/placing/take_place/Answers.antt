@@ -1,0 +1,10 @@
+use Rattle.debugger.specs.private.Making.{with_break}
+use Rattle.debugger.proofs.PlaceFacts.{some_changed, all_changed}
+use Rattle.debugger.proofs.placing.take_place.Goals as goal
+
+pub invariant_of-session : goal.invariant_of-session
+invariant_of-session g c = some_changed _ c.set.new.self (with_break c.args.b) c.set.ensures.places c.session.invariant
+
+pub returns-clause-stands : goal.returns-clause-stands
+returns-clause-stands g c =
+    all_changed _ c.set.new.self (with_break c.args.b) c.set.ensures.places _ c.session.view_is

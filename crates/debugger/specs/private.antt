@@ -1,0 +1,5 @@
+pub mod Words
+pub mod Asking
+pub mod Making
+pub mod Looking
+pub mod Moving
