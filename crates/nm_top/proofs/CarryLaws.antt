@@ -20,7 +20,7 @@ use Rattle.nm_top.specs.Lines.{EndsInLine, ReadFails, IsLineOf, MayStopAt, Print
 use Rattle.nm_top.specs.Lines as lines
 use Rattle.nm_top.specs.Replies.{Reply, reply, Says, Answers, CutShort, Breaks, KeepsOthers}
 use Rattle.nm_top.specs.Demands.{Demand, Fetch, fetch_of, IsFetched}
-use Rattle.nm_top.specs.Answers.{CommandAnswer, Demanding, IsDone, Answer, Fetches, IsBroken, IsEnough, MayBreak, Suffices, demands_of, written_of}
+use Rattle.nm_top.specs.Answers.{CommandAnswer, Demanding, IsDone, Answer, Fetches, IsBroken, IsEnough, IsOwnRefusal, MayBreak, Suffices, demands_of, written_of}
 use Rattle.nm_top.specs.Watches.{Call}
 use Rattle.nm_top.specs.Heard.{AreTold, HearsAny}
 use Rattle.nm_top.specs.private.Works.{
@@ -361,6 +361,7 @@ of_input (commands.Replay program trace schedule) r h = absurd h
 of_input (commands.Finish program trace) r h = absurd h
 of_input (commands.Certify program trace) r h = absurd h
 of_input (commands.Upgrade trace new) r h = absurd h
+of_input (commands.Soak seed) r h = absurd h
 
 line_in_words : (words : List (List ℕ)) (text : List ℕ) (r : Refusal) → IsOfInput r
     → EndsInLine (command_of words) (status_of r) (text ++ refusal_line r) → IsLineOf words (status_of r) (text ++ refusal_line r)
@@ -387,6 +388,7 @@ ends_in (commands.Replay program trace schedule) text r h = absurd h
 ends_in (commands.Finish program trace) text r h = absurd h
 ends_in (commands.Certify program trace) text r h = absurd h
 ends_in (commands.Upgrade trace new) text r h = absurd h
+ends_in (commands.Soak seed) text r h = absurd h
 
 ends_in_line : (words : List (List ℕ)) (command : Command) → command_of words ≡ Some command → (text : List ℕ) (r : Refusal)
     → MayEnd command r → IsLineOf words (status_of r) (text ++ refusal_line r)
@@ -607,6 +609,7 @@ of_debugger (commands.Replay program trace schedule) r h = absurd h
 of_debugger (commands.Finish program trace) r h = absurd h
 of_debugger (commands.Certify program trace) r h = absurd h
 of_debugger (commands.Upgrade trace new) r h = absurd h
+of_debugger (commands.Soak seed) r h = absurd h
 
 module _ (words : List (List ℕ)) (command : Command) (is : command_of words ≡ Some command) (reads reads' takes takes' : ℕ) (before after : Option (List ℕ)) where
   failed_read : (work : Work) → IsWorkOf command work → BelongsTo (is_read_fault work) reads reads' → BelongsTo (is_take_fault work) takes takes'
@@ -632,8 +635,8 @@ module _ (x : Call) (words : List (List ℕ)) (before after : Outside) (takes ta
 
   -- the words name a command, which was carried out
   pub does_command : (command : Command) → command_of words ≡ Some command → CarriesOut x command before after takes takes' status
-      → IfSome before.files (λ held. HearsAny command held status x.watchers) → Does x words before after takes takes' status
-  does_command command is out heard =
+      → IfSome before.files (λ held. HearsAny command held status x.watchers) → IsOwnRefusal command status → Does x words before after takes takes' status
+  does_command command is out heard own =
       let h = out.carries in
       let tells = h.tells in
       let told : (S : Status) → S ≢ statuses.WriteFault → status ≡ S → work_status h.work ≡ S =
@@ -657,6 +660,7 @@ module _ (x : Call) (words : List (List ℕ)) (before after : Outside) (takes ta
         no_read_fault = λ n m. (rested n m).0;
         no_take_fault = λ n m. (rested n m).1;
         refused = refused_due x words before.files after.files before.given after.given status answers;
+        own = subst (λ (o : Option Command). IfSome o (λ c. IsOwnRefusal c status)) (sym is) own;
         overfull = overfull_input x words before.files after.files before.given after.given status answers;
         owed = owed x words before.files after.files before.given after.given status answers before.reads after.reads takes takes' before.writes after.writes before.faults after.faults fault write;
         write_fault = write;
@@ -735,6 +739,7 @@ module _ (x : Call) (words : List (List ℕ)) (F : Option Files) (a r w : ℕ) (
         no_read_fault = λ n m. refl;
         no_take_fault = λ n m. refl;
         refused = refused_due x words F F before after status (answers F told);
+        own = subst (λ (o : Option Command). IfSome o (λ c. IsOwnRefusal c status)) (sym none) tt;
         overfull = overfull_input x words F F before after status (answers F told);
         owed = owed x words F F before after status (answers F told) r r takes takes w w was now fault write;
         write_fault = write;

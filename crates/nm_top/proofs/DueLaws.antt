@@ -12,7 +12,7 @@ use Rattle.nm_top.specs.Commands.{Command, command_of}
 use Rattle.nm_top.specs.Commands as commands
 use Rattle.nm_top.specs.Statuses.{is_of_files}
 use Rattle.nm_top.specs.Replies.{Reply, Says, Answers, Owed}
-use Rattle.nm_top.specs.Demands.{Demand, ProgramText, ScheduleText, TraceText, SameProgram, TraceSchedule, Finishes, Matches, Fetch, fetch_of, Admits, HoldsIn, IsMissing, IsPastLimit, IsMet, AreMet, FailsAs, missing, too_long, refused, FirstFailsAs, refusal_of}
+use Rattle.nm_top.specs.Demands.{Demand, ProgramText, ScheduleText, TraceText, SameProgram, TraceSchedule, Finishes, Matches, OwnProgram, Fetch, fetch_of, Admits, HoldsIn, IsMissing, IsPastLimit, IsMet, AreMet, FailsAs, missing, too_long, refused, FirstFailsAs, refusal_of}
 use Rattle.nm_top.specs.Answers as answers
 use Rattle.nm_top.specs.Watches.{Call}
 use Rattle.nm_top.specs.Answers.{IsReason, Refuses, FailsToRead, Demanding, IsDone, IsShort, EndsBehind, CommandAnswer, Answer, demands_of, Due, Ready, InputEnd, IsEnd, EndsWith, IsOverfull, Overfills}
@@ -112,6 +112,7 @@ refusal_of_files (SameProgram program trace) = refl
 refusal_of_files (TraceSchedule trace name) = refl
 refusal_of_files (Finishes program trace) = refl
 refusal_of_files (Matches program trace) = refl
+refusal_of_files OwnProgram = refl
 
 pub fails_of_files : (held : Files) (demand : Demand) (status : Status) → FailsAs status demand held → is_of_files status ≡ true
 fails_of_files held demand status (missing e m) = ap is_of_files e
@@ -168,6 +169,7 @@ ended_status x (commands.Replay program trace schedule) held r h = absurd h
 ended_status x (commands.Finish program trace) held r h = absurd h
 ended_status x (commands.Certify program trace) held r h = absurd h
 ended_status x (commands.Upgrade trace new) held r h = absurd h
+ended_status x (commands.Soak seed) held r h = absurd h
 
 -- its demands are met
 ended_met : (x : Call) (command : Command) (held : Files) (r : Reply) → EndsBehind x command held r → AreMet (demands_of command) held
@@ -179,6 +181,7 @@ ended_met x (commands.Replay program trace schedule) held r h = absurd h
 ended_met x (commands.Finish program trace) held r h = absurd h
 ended_met x (commands.Certify program trace) held r h = absurd h
 ended_met x (commands.Upgrade trace new) held r h = absurd h
+ended_met x (commands.Soak seed) held r h = absurd h
 
 -- ---- the end of an input
 
@@ -202,6 +205,7 @@ full_end x (commands.Replay program trace schedule) held r h e = absurd h
 full_end x (commands.Finish program trace) held r h e = absurd h
 full_end x (commands.Certify program trace) held r h e = absurd h
 full_end x (commands.Upgrade trace new) held r h e = absurd h
+full_end x (commands.Soak seed) held r h e = absurd h
 
 -- it passes its limit
 overfull : (x : Call) (command : Command) (held : Files) (r : Reply) → EndsBehind x command held r → r.status ≡ InputFull → IfSome x.input (IsOverfull command held)
@@ -215,6 +219,7 @@ overfull x (commands.Replay program trace schedule) held r h e = absurd h
 overfull x (commands.Finish program trace) held r h e = absurd h
 overfull x (commands.Certify program trace) held r h e = absurd h
 overfull x (commands.Upgrade trace new) held r h e = absurd h
+overfull x (commands.Soak seed) held r h e = absurd h
 
 -- a command that was carried out
 done_end : (x : Call) (command : Command) (held : Files) (r : Reply) → IsDone x command held r → IsEnd x held command r.status
@@ -227,6 +232,7 @@ done_end x (commands.Replay program trace schedule) held r h = ap (λ (r : Reply
 done_end x (commands.Finish program trace) held r h = ap (λ (r : Reply). r.status) h.3
 done_end x (commands.Certify program trace) held r h = ap (λ (r : Reply). r.status) h.3
 done_end x (commands.Upgrade trace new) held r h = ap (λ (r : Reply). r.status) h.3
+done_end x (commands.Soak seed) held r h = ap (λ (r : Reply). r.status) h.3
 
 -- where all demands are met, none fails first
 met_no_fail : (held : Files) (status : Status) (demands : List Demand) → AreMet demands held → FirstFailsAs status demands held → ⊥

@@ -15,7 +15,7 @@ use Rattle.nm_top.specs.declared.stop.Stop.TheVariants.{Refused, Memory}
 use Rattle.nm_top.specs.Schedules.{IsFirstBad, BadPlace, schedule_cause}
 use Rattle.nm_top.specs.Replies.{Reply, reply, Says}
 use Rattle.nm_top.specs.Finishing.{finished}
-use Rattle.nm_top.specs.Demands.{Demand, ProgramText, ScheduleText, TraceText, SameProgram, TraceSchedule, Finishes, Matches, Fetch, program_file, trace_file, fetch_of, Admits, Holds, HoldsIn, HasTrace, HasDigest, AreReplayed, IsMissing, IsPastLimit, IsMet}
+use Rattle.nm_top.specs.Demands.{Demand, ProgramText, ScheduleText, TraceText, SameProgram, TraceSchedule, Finishes, Matches, OwnProgram, Fetch, program_file, trace_file, fetch_of, Admits, Holds, HoldsIn, HasTrace, HasDigest, AreReplayed, IsMissing, IsPastLimit, IsMet}
 use Rattle.nm_top.specs.Answers.{IsReason, missing, too_long, refused, Demanding}
 use Rattle.nm_top.specs.private.Works.{Stops, Nothing, IsUnfetched, IsUnmet}
 use Rattle.sha2.specs.Sha256.{sha256}
@@ -28,6 +28,7 @@ use Rattle.cut_witness.specs.declared.comparisons.Compared.TheVariants.{Same, Di
 use Rattle.cut_witness.specs.Comparisons.{HasEntries}
 use Rattle.cut_witness.proofs.EntryFacts.{one_comparison}
 use Rattle.nm_top.specs.Programs.{Reads}
+use Rattle.nm_top.specs.SoakText.{soak_text}
 use Rattle.nm_top.proofs.ProgramLaws.{only_program}
 
 same_reached : (p q : Program) (t u : Content) → p ≡ q → t ≡ u → all_reached (seen_trace t) (finished p t).events ≡ all_reached (seen_trace u) (finished q u).events
@@ -79,6 +80,7 @@ module _ (held : Files) where
       (subst (λ (t : Content). HasEntries t.mask t.notes t.lost (finished meets.0 t).events) same.1 meets.3) in
       let e : Differs why.first ≡ Same = one_comparison why.content.mask why.content.notes why.content.lost (finished why.of_program why.content).events (Differs why.first) Same why.is_first entries in
       absurd cc
+  reason_refuses OwnProgram text line why meets = (only_program soak_text).apart meets.0 why.0 meets.1 why.1
 
 -- ---- what stopped a command at a demand
 

@@ -29,10 +29,10 @@ use Rattle.report.specs.Texts.{usage_line, turns_line, certificates_line}
 use Rattle.report.proofs.FollowsFacts.{follows, full}
 use Rattle.nm_top.specs.declared.status.Status.{Status}
 use Rattle.nm_top.specs.declared.status.Status.TheVariants.{Done, Usage, ReadFault, InputFull, WantOfMemory}
-use Rattle.nm_top.specs.Commands.{Command, Run, Record, Replay, Finish, Certify, Debug, Upgrade, command_of}
+use Rattle.nm_top.specs.Commands.{Command, Run, Record, Replay, Finish, Certify, Debug, Upgrade, Soak, command_of}
 use Rattle.nm_top.specs.Statuses.{is_of_files}
 use Rattle.nm_top.specs.Schedules.{IsSchedule, seen_turn}
-use Rattle.nm_top.specs.Demands.{Demand, ProgramText, ScheduleText, TraceText, SameProgram, TraceSchedule, Finishes, Matches, HoldsIn, schedule_file, IsMet, AreMet, Admits, FailsAs}
+use Rattle.nm_top.specs.Demands.{Demand, TraceSchedule, Finishes, Matches, HoldsIn, schedule_file, IsMet, AreMet, Admits, FailsAs}
 use Rattle.nm_top.specs.Finishing.{replayed, finished, replay_text, finish_text, entries_of}
 use Rattle.nm_top.specs.Replies.{Reply, Says, Answers, Owed}
 use Rattle.nm_top.specs.Watches.{Call, Given, Hear, watch_lines}
@@ -181,6 +181,7 @@ module _ (x : Call) (held : Files) where
   shown (Certify program trace) printed left k = λ h. shows_races held program trace h printed k.0
   shown (Debug program trace) printed left k = λ h. shows_session held program trace h x printed k.0
   shown (Upgrade trace new) printed left k = tt
+  shown (Soak seed) printed left k = tt
 
   ready : (command : Command) → HoldsRecording command held → AreMet (demands_of command) held
   ready (Run program n schedule mask) k = absurd k
@@ -192,6 +193,7 @@ module _ (x : Call) (held : Files) where
       met_behind held program trace k (Finishes program trace ∷ Matches program trace ∷ []) (finishes held program trace k, (matches held program trace k, tt))
   ready (Debug program trace) k = met_behind held program trace k [] tt
   ready (Upgrade trace new) k = absurd k
+  ready (Soak seed) k = absurd k
 
   -- a reply that is done is that of a command that was carried out
   refused_no_done : (demand : Demand) (status : Status) → FailsAs status demand held → status ≢ Done

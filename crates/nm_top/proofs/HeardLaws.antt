@@ -11,7 +11,7 @@ use Rattle.nm_top.specs.declared.status.Status.{Status}
 use Rattle.nm_top.specs.declared.status.Status.TheVariants as statuses
 use Rattle.nm_top.specs.declared.stop.Stop.{Stop}
 use Rattle.nm_top.specs.declared.stop.Stop.TheVariants.{Refused, Memory}
-use Rattle.nm_top.specs.Commands.{Command, Run, Record, Replay, Finish, Certify, Debug, Upgrade}
+use Rattle.nm_top.specs.Commands.{Command, Run, Record, Replay, Finish, Certify, Debug, Upgrade, Soak}
 use Rattle.nm_top.specs.Schedules.{IsSchedule}
 use Rattle.nm_top.specs.Statuses.{status_of}
 use Rattle.nm_top.specs.Demands.{Demand, AreReplayed, HoldsIn, schedule_file, refusal_of, FailsAs, missing, too_long, refused}
@@ -41,6 +41,7 @@ none_made (Record program n schedule trace version mask) held status d s = refl
 none_made (Certify program trace) held status d s = refl
 none_made (Debug program trace) held status d s = refl
 none_made (Upgrade trace new) held status d s = refl
+none_made (Soak seed) held status d s = refl
 none_made (Replay program trace schedule) held statuses.Done d s = absurd (d refl)
 none_made (Replay program trace schedule) held statuses.WriteFault d s = inl refl
 none_made (Replay program trace schedule) held statuses.WantOfMemory d s = inl refl

@@ -1,5 +1,5 @@
 -- The answer to the words of the command line.
-use Rattle.std.specs.Prelude.{◌≡◌, ◌≢◌, ◌⊎◌, ℕ, List, [], ◌∷◌, ◌++◌, MatchOption, IsSomeAnd, Option, Some, None, true, false, slice_index, if◌then◌else◌}
+use Rattle.std.specs.Prelude.{◌≡◌, ◌≢◌, ◌⊎◌, ℕ, List, [], ◌∷◌, ◌++◌, MatchOption, IfSome, IsSomeAnd, Option, Some, None, ⊤, true, false, slice_index, if◌then◌else◌}
 use Rattle.std.specs.Option.{option_and_then}
 use Rattle.nm_base.specs.declared.letter.LetterId.{LetterId}
 use Rattle.nm_outside.specs.Files.{Files}
@@ -30,10 +30,10 @@ use Rattle.report.specs.declared.cause.Refusal.{Refusal}
 use Rattle.report.specs.declared.cause.Refusal.TheVariants as refusals
 use Rattle.nm_top.specs.Statuses.{status_of}
 use Rattle.nm_top.specs.declared.status.Status.{Status}
-use Rattle.nm_top.specs.declared.status.Status.TheVariants.{Done, Usage, Absent, ReadFault, TooLong, WantOfMemory}
+use Rattle.nm_top.specs.declared.status.Status.TheVariants.{Done, Usage, Absent, ReadFault, TooLong, ProgramRefused, WantOfMemory}
 use Rattle.nm_top.specs.declared.status.Status.TheVariants as statuses
-use Rattle.nm_top.specs.Commands.{Command, Run, Record, Replay, Finish, Certify, Debug, Upgrade, command_of}
-use Rattle.nm_top.specs.Programs.{Cause, RefusedFor}
+use Rattle.nm_top.specs.Commands.{Command, Run, Record, Replay, Finish, Certify, Debug, Upgrade, Soak, command_of}
+use Rattle.nm_top.specs.Programs.{Cause, Reads, RefusedFor}
 use Rattle.nm_top.specs.Schedules.{BadPlace, IsFirstBad}
 use Rattle.nm_top.specs.Demands.{
   Demand,
@@ -44,6 +44,7 @@ use Rattle.nm_top.specs.Demands.{
   TraceSchedule,
   Finishes,
   Matches,
+  OwnProgram,
   fetch_of,
   Admits,
   refusal_of,
@@ -70,6 +71,8 @@ use Rattle.nm_top.specs.declared.talk.End.TheVariants.{Over, InputFault, InputFu
 use Rattle.nm_top.specs.Debugging.{passes_limit}
 use Rattle.nm_top.specs.Debugs.{Debugs, DebugStops}
 use Rattle.nm_top.specs.Upgrades.{UpgradeDoes, UpgradeBreaks, UpgradeFits}
+use Rattle.nm_top.specs.SoakText.{soak_text}
+use Rattle.nm_top.specs.Soaking.{SoakPrints, SoakStops}
 
 -- ---- commands
 
@@ -87,6 +90,7 @@ demands_of (Certify program trace) =
     pair_demands program trace ++ Finishes program trace ∷ Matches program trace ∷ []
 demands_of (Debug program trace) = pair_demands program trace
 demands_of (Upgrade trace new) = TraceText trace ∷ []
+demands_of (Soak seed) = OwnProgram ∷ []
 
 abbrev pub to_record : List ℕ → ℕ → List ℕ → List ℕ → ℕ → ℕ → ToRecord
 to_record program n schedule trace version mask =
@@ -105,15 +109,17 @@ Carried x (Finish program trace) files printed left = FinishPrints x.watchers pr
 Carried x (Certify program trace) files printed left = CertifyPrints program trace files printed × (left ≡ files)
 Carried x (Debug program trace) files printed left = Debugs x program trace Over files printed × (left ≡ files)
 Carried x (Upgrade trace new) files printed left = UpgradeDoes trace new files printed left
+Carried x (Soak seed) files printed left = SoakPrints seed printed × (left ≡ files)
 
 -- what was done before there was want of memory: nothing; or the turns of a recording, the first certificates, or the
--- replies to the first lines
+-- replies to the first lines; or the first parts of what `soak` prints
 abbrev pub StopsEarly : Call → Command → Files → List ℕ → Files → Type 0
 StopsEarly x (Record program n schedule trace version mask) files printed left =
     RecordStops (to_record program n schedule trace version mask) files printed left
 StopsEarly x (Certify program trace) files printed left = CertifyStops program trace files printed × (left ≡ files)
 StopsEarly x (Debug program trace) files printed left =
     DebugStops x program trace files printed × (left ≡ files)
+StopsEarly x (Soak seed) files printed left = SoakStops seed printed × (left ≡ files)
 StopsEarly x command files printed left = ⊥
 
 abbrev pub RunsShort : Call → Command → Files → List ℕ → Files → Type 0
@@ -194,6 +200,8 @@ IsReason (SameProgram program trace) files text line = IsOther files program tra
 IsReason (TraceSchedule trace name) files text line = IsBadFor files trace text line
 IsReason (Finishes program trace) files text line = IsStuckAt files program trace line
 IsReason (Matches program trace) files text line = IsNotIts files program trace line
+IsReason OwnProgram files text line =
+    (why : Cause) × RefusedFor soak_text why × (line ≡ program_refused_line why.kind why.line)
 
 -- The demand isn't met, and that is the reply.
 pub data Refuses (demand : Demand) (files : Files) (r : Reply) : Type 0 where
@@ -299,3 +307,12 @@ written_by words = option_and_then written_of (command_of words)
 -- The words name a command for whose file this room is enough.
 abbrev pub Suffices : List (List ℕ) → Files → ℕ → Type 0
 Suffices words files room = IsSomeAnd (command_of words) (λ command. IsEnough command files room)
+
+-- Where `soak` ends with the status of a refused program, its own text is that of none.
+abbrev pub IsOwnRefusal : Command → Status → Type 0
+IsOwnRefusal (Soak seed) status = status ≡ ProgramRefused → (p : Program) → Reads soak_text p → ⊥
+IsOwnRefusal command status = ⊤
+
+-- The words name no command, or one of which that holds.
+abbrev pub RefusesOwn : List (List ℕ) → Status → Type 0
+RefusesOwn words status = IfSome (command_of words) (λ command. IsOwnRefusal command status)

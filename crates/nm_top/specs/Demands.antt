@@ -25,6 +25,7 @@ use Rattle.nm_top.specs.declared.status.Status.TheVariants.{
 use Rattle.nm_top.specs.Programs.{Reads}
 use Rattle.nm_top.specs.Schedules.{IsSchedule}
 use Rattle.nm_top.specs.Finishing.{finished}
+use Rattle.nm_top.specs.SoakText.{soak_text}
 
 pub data Demand : Type 0 where
   -- the file of this name has the text of a program
@@ -42,6 +43,8 @@ pub data Demand : Type 0 where
   Finishes : List ℕ → List ℕ → Demand
   -- the finished replay has the entries of the trace
   Matches : List ℕ → List ℕ → Demand
+  -- the program that `soak` runs is one
+  OwnProgram : Demand
 
 -- a file that is fetched, and how many bytes it may have
 pub record Fetch : Type 0 where
@@ -79,6 +82,7 @@ fetch_of (SameProgram program trace) = None
 fetch_of (TraceSchedule trace name) = Some (schedule_file name)
 fetch_of (Finishes program trace) = None
 fetch_of (Matches program trace) = None
+fetch_of OwnProgram = None
 
 -- the trace in the second file has the digest of the first
 pub record HasDigest (files : Files) (program trace : List ℕ) (t : Content) (digest : List ℕ) : Type 0 where
@@ -99,6 +103,7 @@ Admits (Finishes program trace) files text =
 Admits (Matches program trace) files text =
     (p : Program) × (t : Content) × AreReplayed files program trace p t
     × HasEntries t.mask t.notes t.lost (finished p t).events
+Admits OwnProgram files text = (p : Program) × Reads soak_text p
 
 -- the status of a demand whose file is there and that isn't met
 abbrev pub refusal_of : Demand → Status
@@ -109,6 +114,7 @@ refusal_of (SameProgram program trace) = OtherProgram
 refusal_of (TraceSchedule trace name) = ScheduleRefused
 refusal_of (Finishes program trace) = Stuck
 refusal_of (Matches program trace) = NotItsTrace
+refusal_of OwnProgram = ProgramRefused
 
 -- It isn't there.
 abbrev pub IsMissing : Files → Fetch → Type 0

@@ -6,17 +6,19 @@ use Rattle.report.specs.declared.cause.Refusal.{Refusal}
 use Rattle.report.specs.Texts.{refusal_line, usage_line, stopped_line, read_fault_line, input_fault_line}
 use Rattle.nm_top.specs.declared.status.Status.{Status}
 use Rattle.nm_top.specs.declared.status.Status.TheVariants.{Done, Usage, WriteFault, WantOfMemory}
-use Rattle.nm_top.specs.Commands.{Command, Record, Certify, Debug, AsksInput, command_of}
+use Rattle.nm_top.specs.Commands.{Command, Record, Certify, Debug, Soak, AsksInput, command_of}
 use Rattle.nm_top.specs.Statuses.{status_of, IsOf, IsOfInput}
 use Rattle.nm_top.specs.Answers.{Fetches}
+use Rattle.nm_top.specs.Soaking.{SoakStops}
 
 -- what a command may have printed where there was want of memory: nothing; or the one line of a recording that stopped,
--- certificates, or replies
+-- certificates, replies, or the first parts of what `soak` prints
 abbrev pub MayStopAt : Option Command → List ℕ → Type 0
 MayStopAt (Some (Record program n schedule trace version mask)) text =
     (text ≡ []) ⊎ ((turns : ℕ) × (text ≡ stopped_line turns))
 MayStopAt (Some (Certify program trace)) text = ⊤
 MayStopAt (Some (Debug program trace)) text = ⊤
+MayStopAt (Some (Soak seed)) text = (text ≡ []) ⊎ SoakStops seed text
 MayStopAt command text = text ≡ []
 
 -- The input of a debugger failed, or is too long: what was replied before, and the line of that.

@@ -3,6 +3,7 @@ pub mod Named
 pub mod Recorded
 pub mod Replaying
 pub mod Rewriting
+pub mod Soaked
 pub mod Tellings
 pub mod Top
 pub mod Unread

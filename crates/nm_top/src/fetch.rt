@@ -67,8 +67,8 @@ fn fetched<'a, C: Cabinet>(
     }
 }
 
-// What stops a command whose program wasn't read.
-fn unread<'a>(fault: Unread) -> Stop<'a>
+/// What stops a command whose program wasn't read.
+pub fn unread<'a>(fault: Unread) -> Stop<'a>
     ensures unmet { (held : Files) (name text : List ℕ) → IsUnread text fault
         → IsUnmet (ProgramText name) held text result }
     ensures text { IsOfText result }
@@ -119,7 +119,8 @@ fn undecoded<'a>(fault: TraceFault) -> Stop<'a>
     }
 }
 
-fn digest_of(text: &[u8]) -> [u8; 32]
+/// The SHA-256 digest of a text (FIPS 180-4).
+pub fn digest_of(text: &[u8]) -> [u8; 32]
     ensures { result ≡ sha256 text.now }
 {
     let mut hasher = Sha256::new();

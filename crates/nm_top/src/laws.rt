@@ -2,9 +2,13 @@
 
 ghost use Rattle.std.specs.Prelude.{◌≡◌, ◌≤◌, ◌++◌, ℕ, List, length, true, false};
 ghost use Rattle.std.specs.List.{flat_map, list_any};
+ghost use Rattle.c_tree.specs.declared.program.Program.{Program};
+ghost use Rattle.trace_file.specs.Content.{Content};
+ghost use Rattle.report.specs.Runs.{summary_of};
 ghost use Rattle.nm_top.specs.declared.talk.End.TheVariants.{Over, InputFull};
 ghost use Rattle.nm_top.specs.Debugging.{EndsAfter, has_newline, passes_limit, split, with_newline};
 ghost use Rattle.nm_top.specs.Programs.{OneProgram};
+ghost use Rattle.nm_top.specs.Soaking.{Soaks, soak_finished, soak_run};
 
 /// A text has at most one program, and none where it is refused.
 pub fn program_law()
@@ -25,4 +29,10 @@ pub fn end_law()
         → passes_limit n input ≡ false }
     ensures full { (n : ℕ) (input : List ℕ) (k : ℕ) (lines : List (List ℕ)) → k ≤ length input
         → EndsAfter n input k lines InputFull → passes_limit n input ≡ true }
+{}
+
+/// The finished replay of `soak` has the summary of the recording: of the six lines the second and the fourth are equal.
+pub fn soak_law()
+    ensures { (seed : ℕ) (p : Program) (t : Content) → Soaks seed p t
+        → summary_of (soak_finished p t seed).events ≡ summary_of (soak_run p seed) }
 {}

@@ -72,8 +72,8 @@ fn idle_turns(turned: &Turned) -> u32
     }
 }
 
-// Makes the turns of a schedule, and answers how many of them made no event.
-fn replay_turns(
+/// Makes the turns of a schedule, and answers how many of them made no event.
+pub fn replay_turns(
     alloc: Global,
     replay: &mut Replay<CProc<'_>, OrderedMail>,
     schedule: &Schedule,

@@ -8,7 +8,7 @@ ghost use Rattle.nm_top.specs.Statuses.{is_of_files};
 ghost use Rattle.nm_top.specs.Headline.{Headline};
 ghost use Rattle.nm_top.specs.Lines.{ReadFails, PrintsLine};
 ghost use Rattle.nm_top.specs.Replies.{Answers, Breaks, KeepsOthers, Owed};
-ghost use Rattle.nm_top.specs.Answers.{Answer, Due, EndsWith, MayBreak, Overfills, Ready, Suffices, written_by};
+ghost use Rattle.nm_top.specs.Answers.{Answer, Due, EndsWith, IsOwnRefusal, MayBreak, Overfills, Ready, RefusesOwn, Suffices, written_by};
 ghost use Rattle.nm_top.specs.Debugging.{TakesTooMany};
 ghost use Rattle.nm_top.specs.Watches.{call, given};
 ghost use Rattle.nm_top.specs.Heard.{AreTold, HearsAny};
@@ -22,6 +22,7 @@ use crate::finish::finish;
 use crate::record::{Recording, record};
 use crate::replay::replay;
 use crate::run::run;
+use crate::soak::soak;
 use crate::status::Status;
 use crate::stop::Stop;
 use crate::tell::tell;
@@ -52,6 +53,7 @@ fn carry_out<C: Cabinet, I: Source, O: Sink, W: Watcher>(
         (I.faults input.old) (I.faults input.new) result }
     ensures told { IfSome (C.files files.old) (λ held. HearsAny (named command.entry) held result
         (given (map W.watched watch.old.items) (map W.watched watch.new.items))) }
+    ensures own { IsOwnRefusal (named command.entry) result }
     ensures input { ¬ TakesInput (named command.entry) → (I.left input.new ≡ I.left input.old)
         × (I.taken input.new ≡ I.taken input.old) × (I.faults input.new ≡ I.faults input.old) }
     ensures full { result ≡ Status.InputFull → TakesTooMany (I.taken input.old) (I.taken input.new) }
@@ -89,6 +91,7 @@ fn carry_out<C: Cabinet, I: Source, O: Sink, W: Watcher>(
             debug(alloc, program, trace, files, input, out, watch)
         }
         Command::Upgrade { trace, new } => upgrade(alloc, trace, new, files, out),
+        Command::Soak { seed } => soak(alloc, seed, out),
     }
 }
 
@@ -145,6 +148,10 @@ pub fn racetrace<C: Cabinet, I: Source, O: Sink, W: Watcher>(
         → Owed (λ s. s ≡ due) (C.read_faults files.old) (C.read_faults files.new) (I.faults input.old)
         (I.faults input.new)
         (C.write_faults files.old) (C.write_faults files.new) (O.faults out.old) (O.faults out.new) result) }
+
+    // `soak` refuses the program of its own only where the text of that is the text of no program: also where the
+    // files aren't told.
+    ensures own { RefusesOwn (texts words.now) result }
 
     // Absent comes exactly where a file wasn't found.
     ensures absent { result ≡ Status.Absent → Rose (C.absents files.old) (C.absents files.new) }

@@ -111,6 +111,11 @@ stopped_line turns = number_line (codes "stopped: want of memory after ") turns 
 abbrev pub upgraded_line : ℕ → ℕ → ℕ → List ℕ
 upgraded_line notes lost bytes = sizes_line (codes "upgraded: notes ") notes lost bytes
 
+-- the first line of a run that is generated
+abbrev pub soak_line : ℕ → ℕ → ℕ → List ℕ
+soak_line seed n turns =
+    codes "soak " ++ decimal seed ++ codes ": N " ++ decimal n ++ codes ", turns " ++ decimal turns ++ codes "\n"
+
 -- ---- certificates
 
 -- the number of the receive of a letter, or that it was lost

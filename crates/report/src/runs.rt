@@ -6,7 +6,7 @@ ghost use Rattle.event_list.specs.declared.Event.{Event};
 ghost use Rattle.nm_outside.specs.Causes.{BelongsTo};
 ghost use Rattle.report.specs.Printing.{Prints};
 ghost use Rattle.report.specs.Runs as runs;
-ghost use Rattle.report.specs.Runs.{RunsProgram, block_of, all_blocks};
+ghost use Rattle.report.specs.Runs.{RunsProgram, block_of, all_blocks, summary_of};
 
 use crate::one_process::block;
 use crate::summaries::summary;
@@ -48,15 +48,16 @@ fn put_blocks<'c, M: Mail, O: Sink>(out: &mut O, world: &World<CProc<'c>, M>) ->
     Ok(())
 }
 
-/// The blocks of all processes in order of their numbers, and the summary. A letter that was sent
-/// and not accepted waits.
-pub fn blocks<'c, M: Mail, O: Sink>(out: &mut O, world: &World<CProc<'c>, M>) -> Result<(), Failed>
+/// The summary of a world's run. A letter that was sent and not accepted waits.
+pub fn run_summary<'c, M: Mail, O: Sink>(
+    out: &mut O,
+    world: &World<CProc<'c>, M>,
+) -> Result<(), Failed>
     ensures text { (program : Program) (E : List Event) → RunsProgram world.now program E
         → Prints (O.given out.old) (O.given out.new) (O.faults out.old) (O.faults out.new)
-        (runs.blocks program (length world.now.processes) E) result }
+        (summary_of E) result }
     ensures cause { BelongsTo (is_err result) (O.faults out.old) (O.faults out.new) }
 {
-    put_blocks(out, world)?;
     let sent = world.sent();
     let accepted = world.accepted();
     summary(
@@ -66,4 +67,15 @@ pub fn blocks<'c, M: Mail, O: Sink>(out: &mut O, world: &World<CProc<'c>, M>) ->
         accepted,
         sent.saturating_sub(accepted),
     )
+}
+
+/// The blocks of all processes in order of their numbers, and the summary.
+pub fn blocks<'c, M: Mail, O: Sink>(out: &mut O, world: &World<CProc<'c>, M>) -> Result<(), Failed>
+    ensures text { (program : Program) (E : List Event) → RunsProgram world.now program E
+        → Prints (O.given out.old) (O.given out.new) (O.faults out.old) (O.faults out.new)
+        (runs.blocks program (length world.now.processes) E) result }
+    ensures cause { BelongsTo (is_err result) (O.faults out.old) (O.faults out.new) }
+{
+    put_blocks(out, world)?;
+    run_summary(out, world)
 }

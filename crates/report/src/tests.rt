@@ -3,8 +3,8 @@
 use crate::{
     Notice, Refusal, Spot, at_line, block, broke_line, certificate, certificates_line,
     cleared_line, clock_line, detached_line, event_line, frame_line, notice_line, output_text,
-    refusal, set_line, stopped_line, summary, trace_line, turns_line, upgraded_line, value_line,
-    waiting_line, watch_line, watched_line, watcher_line, where_line,
+    refusal, set_line, soak_line, stopped_line, summary, trace_line, turns_line, upgraded_line,
+    value_line, waiting_line, watch_line, watched_line, watcher_line, where_line,
 };
 use cut_witness::{Witness, WitnessTurn};
 use event_list::Event;
@@ -154,11 +154,12 @@ fn lines_of_traces(rt: HostRuntime) -> Result<(), Fail> {
     assert!(rt; turns_line(&mut out, 31, 9).is_ok());
     assert!(rt; stopped_line(&mut out, 200).is_ok());
     assert!(rt; upgraded_line(&mut out, 1, 2, 98).is_ok());
+    assert!(rt; soak_line(&mut out, 4294967295, 4, 200000).is_ok());
     assert!(rt; certificates_line(&mut out, 1).is_ok());
     assert!(rt; watched_line(&mut out, 0, b"letters 2").is_ok());
     assert_eq!(rt;
         out.bytes(),
-        b"== trace notes 1, lost 0, bytes 94\n== turns 31, idle 9\nstopped: want of memory after 200 turns\nupgraded: notes 1, lost 2, bytes 98\n== certificates 1\n== watch 0: letters 2\n".as_slice()
+        b"== trace notes 1, lost 0, bytes 94\n== turns 31, idle 9\nstopped: want of memory after 200 turns\nupgraded: notes 1, lost 2, bytes 98\nsoak 4294967295: N 4, turns 200000\n== certificates 1\n== watch 0: letters 2\n".as_slice()
     );
     Ok(())
 }

@@ -96,3 +96,25 @@ pub fn stopped_line<O: Sink>(out: &mut O, turns: u32) -> Result<(), Failed>
 {
     put_number(out, b"stopped: want of memory after ", turns, b" turns\n")
 }
+
+/// The first line of a generated run: its seed, how many processes it has, and how many turns.
+pub fn soak_line<O: Sink>(out: &mut O, seed: u32, n: u8, turns: u32) -> Result<(), Failed>
+    ensures { Prints (O.given out.old) (O.given out.new) (O.faults out.old) (O.faults out.new)
+        (texts.soak_line seed n turns) result }
+{
+    let mut seed_digits = Buffer::new();
+    let mut process_digits = Buffer::new();
+    let mut turn_digits = Buffer::new();
+    put_pieces(
+        out,
+        &[
+            b"soak ",
+            seed_digits.format(seed).as_bytes(),
+            b": N ",
+            process_digits.format(n).as_bytes(),
+            b", turns ",
+            turn_digits.format(turns).as_bytes(),
+            b"\n",
+        ],
+    )
+}

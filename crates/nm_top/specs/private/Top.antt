@@ -7,7 +7,7 @@ use Rattle.nm_top.specs.Commands.{command_of}
 use Rattle.nm_top.specs.Statuses.{is_of_files}
 use Rattle.nm_top.specs.Lines.{ReadFails, PrintsLine}
 use Rattle.nm_top.specs.Replies.{Answers, Breaks, KeepsOthers, Owed}
-use Rattle.nm_top.specs.Answers.{Answer, MayBreak, Due, Ready, EndsWith, Overfills, Suffices, written_by}
+use Rattle.nm_top.specs.Answers.{Answer, MayBreak, Due, Ready, EndsWith, Overfills, RefusesOwn, Suffices, written_by}
 use Rattle.nm_top.specs.Headline.{Headline}
 use Rattle.nm_top.specs.Watches.{Call}
 use Rattle.nm_top.specs.Heard.{AreTold}
@@ -24,6 +24,7 @@ pub record Does (x : Call) (words : List (List ℕ)) (before after : Outside) (t
   pub no_read_fault : status ≢ ReadFault → status ≢ WriteFault → after.reads ≡ before.reads
   pub no_take_fault : status ≢ ReadFault → status ≢ WriteFault → takes' ≡ takes
   pub refused : IsTrue (is_of_files status) → IfSome before.files (Due status words)
+  pub own : RefusesOwn words status
   pub overfull : status ≡ InputFull → IfSome before.files (λ held. IfSome x.input (Overfills words held))
   pub owed : IfSome before.files (λ held. (due : Status) → Due due words held → Owed (λ s. s ≡ due)
       before.reads after.reads takes takes' before.writes after.writes before.faults after.faults status)

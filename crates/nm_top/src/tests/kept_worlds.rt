@@ -1,6 +1,7 @@
 //! What no reply says: that a session goes back from a world that it kept.
 
 ghost use Rattle.std.specs.Prelude.{IfOk};
+ghost use Rattle.trace_file.specs.Rules.{IsTrace};
 
 use super::one_process::{FOR_EVER, code_of};
 use debugger::{Next, Session, SessionFault};
@@ -13,22 +14,22 @@ use std::test::Fail;
 use trace_file::{Trace, decode};
 use watchers::AnyWatcher;
 
-/// Letters in a list, which are copied, and whose copy can't be copied again.
+/// Letters that are copied, and whose copy can't be copied again.
 #[derive(Drop)]
-struct CopiedOnce {
-    letters: ListMail,
+struct CopiedOnce<M: Mail> {
+    letters: M,
     is_copy: bool,
 }
 
-impl Mail for CopiedOnce {
-    ghost letters = { λ m. ⟦<ListMail as Mail>⟧.letters m.letters };
+impl<M: Mail> Mail for CopiedOnce<M> {
+    ghost letters = { λ m. M.letters m.letters };
 
-    ghost ordered = { λ m. ⟦<ListMail as Mail>⟧.ordered m.letters };
+    ghost ordered = { λ m. M.ordered m.letters };
 
-    ghost spare = { λ m. ⟦<ListMail as Mail>⟧.spare m.letters };
+    ghost spare = { λ m. M.spare m.letters };
 
     fn empty(alloc: Global, mask: u32) -> Result<Self, WantOfMemory> {
-        let letters = ListMail::empty(alloc, mask)?;
+        let letters = M::empty(alloc, mask)?;
         Ok(CopiedOnce {
             letters,
             is_copy: false,
@@ -88,13 +89,15 @@ impl Mail for CopiedOnce {
         })
     }
 
-    ghost rises = { λ m. ⟦<ListMail as Mail>⟧.rises m.letters };
+    ghost rises = { λ m. M.rises m.letters };
 
-    ghost distinct = { λ m. ⟦<ListMail as Mail>⟧.distinct m.letters };
+    ghost distinct = { λ m. M.distinct m.letters };
 }
 
 /// A trace of one process that made 1,000 events, in which no letter is named.
-fn trace_of_events(alloc: Global) -> Result<Trace, Fail> {
+fn trace_of_events(alloc: Global) -> Result<Trace, Fail>
+    ensures { IfOk result IsTrace }
+{
     let mut bytes = Vec::from_slice(alloc, b"NMTR\x01\x01")?;
     bytes.extend_from_slice(&[0; 32])?;
     bytes.extend_from_slice(&[3, 0, 0, 3, 232])?;
@@ -103,8 +106,10 @@ fn trace_of_events(alloc: Global) -> Result<Trace, Fail> {
     if bytes.len() > MAX_TRACE_BYTES as usize {
         return Err("too long")?;
     }
-    let trace = decode(alloc, &bytes).ok().ok_or("it is a trace")?;
-    Ok(trace)
+    match decode(alloc, &bytes) {
+        Ok(trace) => Ok(trace),
+        Err(_) => Err("damaged")?,
+    }
 }
 
 #[test]
@@ -112,7 +117,7 @@ fn back_uses_a_kept_world(rt: HostRuntime) -> Result<(), Fail> {
     let alloc = rt.alloc();
     let code = code_of(alloc, FOR_EVER)?;
     let trace = trace_of_events(alloc)?;
-    let mut session = Session::<CopiedOnce>::new(alloc, &code, &trace)?;
+    let mut session = Session::<CopiedOnce<ListMail>>::new(alloc, &code, &trace)?;
     let mut watch: Vec<AnyWatcher> = Vec::new(alloc);
     let mut out = ListSink::new(alloc, 100, Vec::new(alloc))?;
     let run = session.line(alloc, b"run", &mut watch, &mut out);

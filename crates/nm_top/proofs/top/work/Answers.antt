@@ -18,7 +18,7 @@ returns-in-None-clause-full g c = λ e.
 
 pub returns-in-Some-clause-does : goal.returns-in-Some-clause-does
 returns-in-Some-clause-does g c =
-    does_command _ (texts c.args.words.now) _ _ _ _ c.carry_out.result (named c.in-Some.command) (sym c.command_in.ensures.command ∙ ap (option_map named) c.in-Some.is) c.carry_out.ensures.carries c.carry_out.ensures.told
+    does_command _ (texts c.args.words.now) _ _ _ _ c.carry_out.result (named c.in-Some.command) (sym c.command_in.ensures.command ∙ ap (option_map named) c.in-Some.is) c.carry_out.ensures.carries c.carry_out.ensures.told c.carry_out.ensures.own
 
 pub returns-in-Some-clause-input : goal.returns-in-Some-clause-input
 returns-in-Some-clause-input g c =
