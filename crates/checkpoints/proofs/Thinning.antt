@@ -1,30 +1,43 @@
 -- What is left of a list where every other element goes.
-use Rattle.std.proofs.Common.{◌≡◌, ℕ, zero, suc, ◌+◌, ◌*◌, ◌≤◌, List, [], ◌∷◌, ◌++◌, length, take, drop, refl, ap, ap₂, ◌∙◌, arith}
-use Rattle.std.specs.Prelude.{All}
-use Rattle.std.specs.List.{AllPairs, remove}
-use Rattle.std.proofs.lemmas.List.{append-nil, take_all, drop_all}
+use Rattle.std.proofs.Common.{◌≡◌, ℕ, zero, suc, ◌+◌, ◌*◌, ◌≤◌, ◌<◌, List, [], ◌∷◌, ◌++◌, length, take, drop, refl, ap, ◌∙◌, arith}
+use Rattle.std.specs.Prelude.{All, slice_index_or, slice_set}
+use Rattle.std.specs.List.{AllPairs, swap}
+use Rattle.std.proofs.lemmas.List.{append-nil, drop_all}
 use Rattle.std.proofs.lemmas.List.Elements.{All-cons, All-head, All-tail}
 use Rattle.checkpoints.specs.Kept.{evens}
 
 module _ {A : Type 0} where
-  evens_step : (xs : List A) → take 1 xs ++ evens (drop 2 xs) ≡ evens xs
-  evens_step [] = refl
-  evens_step (x ∷ []) = refl
-  evens_step (x ∷ y ∷ xs) = refl
+  -- the first i are kept, and every other one from j on will be
+  abbrev pub left_at : ℕ → ℕ → List A → List A
+  left_at i j xs = take i xs ++ evens (drop j xs)
 
-  -- the first i are through, and the next one goes
-  abbrev pub left_at : ℕ → List A → List A
-  left_at i xs = take i xs ++ evens (drop (suc i) xs)
+  -- the i-th and the j-th element in each other's place
+  abbrev exchanged : A → List A → ℕ → ℕ → List A
+  exchanged d xs i j = slice_set (slice_set xs i (slice_index_or xs j d)) j (slice_index_or xs i d)
 
-  pub one_out : (xs : List A) (i : ℕ) → left_at (suc i) (remove xs i) ≡ left_at i xs
-  one_out [] zero = refl
-  one_out [] (suc i) = refl
-  one_out (x ∷ xs) zero = evens_step xs
-  one_out (x ∷ xs) (suc i) = ap (λ l. x ∷ l) (one_out xs i)
+  evens_from : (d x : A) (xs : List A) (j : ℕ) → j < length xs
+      → slice_index_or xs j d ∷ evens (drop (suc (suc j)) (slice_set xs j x)) ≡ evens (drop j xs)
+  evens_from d x [] j lt = absurd (omega (arith, lt))
+  evens_from d x (y ∷ []) zero lt = refl
+  evens_from d x (y ∷ z ∷ xs) zero lt = refl
+  evens_from d x (y ∷ xs) (suc j) lt = evens_from d x xs j (omega (arith, lt))
 
-  pub all_out : (xs : List A) (i : ℕ) → length xs ≤ i → left_at i xs ≡ xs
-  all_out xs i le =
-      ap₂ (λ a b. a ++ evens b) (take_all i xs le) (drop_all (suc i) xs (omega (arith, le))) ∙ append-nil xs
+  exchange : (d : A) (xs : List A) (i j : ℕ) → i ≤ j → j < length xs
+      → left_at (suc i) (suc (suc j)) (exchanged d xs i j) ≡ left_at i j xs
+  exchange d [] i j le lt = absurd (omega (arith, lt))
+  exchange d (x ∷ []) zero zero le lt = refl
+  exchange d (x ∷ y ∷ xs) zero zero le lt = refl
+  exchange d (x ∷ xs) zero (suc j) le lt = evens_from d x xs j (omega (arith, lt))
+  exchange d (x ∷ xs) (suc i) zero le lt = absurd (omega (arith, le))
+  exchange d (x ∷ xs) (suc i) (suc j) le lt = ap (λ l. x ∷ l) (exchange d xs i j (omega (arith, le)) (omega (arith, lt)))
+
+  pub one_kept : (xs : List A) (i j : ℕ) → i ≤ j → j < length xs
+      → left_at (suc i) (suc (suc j)) (swap xs i j) ≡ left_at i j xs
+  one_kept [] i j le lt = absurd (omega (arith, lt))
+  one_kept (x ∷ xs) i j le lt = exchange x (x ∷ xs) i j le lt
+
+  pub all_kept : (xs : List A) (i j : ℕ) → length xs ≤ j → left_at i j xs ≡ take i xs
+  all_kept xs i j le = ap (λ l. take i xs ++ evens l) (drop_all j xs le) ∙ append-nil (take i xs)
 
   pub length_evens : (xs : List A) → 2 * length (evens xs) ≤ length xs + 1
   length_evens [] = omega arith

@@ -158,6 +158,18 @@ fn keep_waiting(slots: &mut Vec<Slot>)
     slots.retain(|s| s.waits);
 }
 
+/// The slots whose letters wait.
+fn waiting_slots(alloc: Global, slots: &[Slot]) -> Result<Vec<Slot>, WantOfMemory>
+    ensures { IfOk result (λ w. w.items ≡ filter (λ s. s.waits) slots.now) }
+{
+    slots
+        .iter()
+        .copied()
+        .filter(|s| s.waits)
+        .collect(alloc)
+        .map_err(|_| WantOfMemory)
+}
+
 /// Links slots from nothing. It takes no memory where there is room for their links.
 fn link_anew(
     slots: &[Slot],
@@ -387,17 +399,20 @@ impl Queues {
         )
     }
 
-    /// Queues with the same slots.
+    /// Queues of their own with the letters that wait.
     pub(crate) fn copy(&self, alloc: Global) -> Result<Queues, WantOfMemory>
-        ensures { IfOk result (λ q. q.slots ≡ self.now.slots) }
+        ensures { IfOk result (λ q. waiting_in q.slots ≡ waiting_in self.now.slots) }
     {
-        let slots = Vec::from_slice(alloc, self.slots.as_slice()).map_err(|_| WantOfMemory)?;
-        let next = Vec::from_slice(alloc, self.next.as_slice()).map_err(|_| WantOfMemory)?;
+        let slots = waiting_slots(alloc, self.slots())?;
+        let mut next = Vec::with_capacity(alloc, slots.len())?;
+        let mut heads = no_places();
+        let mut tails = no_places();
+        link_anew(slots.as_slice(), &mut next, &mut heads, &mut tails);
         Ok(Queues {
             slots,
             next,
-            heads: self.heads,
-            tails: self.tails,
+            heads,
+            tails,
         })
     }
 
