@@ -6,7 +6,10 @@ use std::test::Fail;
 fn displays_refusals(rt: HostRuntime) -> Result<(), Fail> {
     let rows: [(ParseFault, &str); 3] = [
         (ParseFault::Syntax { line: 1 }, "line 1: not the grammar"),
-        (ParseFault::Deep { line: 4294967295 }, "line 4294967295: nested too deeply"),
+        (
+            ParseFault::Deep { line: 4294967295 },
+            "line 4294967295: nested too deeply",
+        ),
         (ParseFault::Memory, "out of memory"),
     ];
     for (fault, text) in rows {
