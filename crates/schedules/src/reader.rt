@@ -21,7 +21,7 @@ pub enum ScheduleFault {
     #[error("at {place}: no such process")]
     NoProcess { place: u32 },
     /// The turns up to and with it are more than 1,000,000.
-    #[error("at {place}: more than 1000000 turns")]
+    #[error("at {place}: more than {most} turns", most = MAX_TURNS)]
     TooMany { place: u32 },
     /// Memory was refused.
     #[error("out of memory")]
