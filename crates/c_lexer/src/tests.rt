@@ -173,3 +173,37 @@ fn each_kind(rt: HostRuntime) -> Result<(), Fail> {
     }
     Ok(())
 }
+
+/// What is displayed for each refusal.
+#[test]
+fn displays_refusals(rt: HostRuntime) -> Result<(), Fail> {
+    let rows: [(LexFault, &str); 8] = [
+        (
+            LexFault::BadByte { line: 1 },
+            "line 1: a byte that no lexeme has here",
+        ),
+        (
+            LexFault::OpenComment { line: 20 },
+            "line 20: a comment without an end",
+        ),
+        (
+            LexFault::OpenText { line: 3 },
+            "line 3: a quote without its closing quote",
+        ),
+        (LexFault::BadConstant { line: 4 }, "line 4: not a constant"),
+        (LexFault::BadEscape { line: 5 }, "line 5: not an escape"),
+        (
+            LexFault::LongName { line: 6 },
+            "line 6: a name of more than 63 bytes",
+        ),
+        (
+            LexFault::LongText { line: 4294967295 },
+            "line 4294967295: a text of more than 509 bytes",
+        ),
+        (LexFault::Memory, "out of memory"),
+    ];
+    for (fault, text) in rows {
+        assert_eq!(rt; format!(in rt.alloc(); "{fault}")?.as_str(), text);
+    }
+    Ok(())
+}

@@ -12,6 +12,8 @@ mod nodes;
 mod operators;
 mod parser;
 mod stmt;
+#[cfg(test)]
+mod tests;
 mod tokens;
 mod unit;
 

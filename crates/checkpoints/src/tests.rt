@@ -6,7 +6,7 @@ ghost use Rattle.checkpoints.specs.Kept.{AreBelow};
 
 use crate::Checkpoints;
 use mailboxes::{FreeGate, ListMail};
-use nm_base::{Kind, ProcNo, WantOfMemory};
+use nm_base::{Kind, MAX_EVENTS, ProcNo, WantOfMemory};
 use processes::{Listed, Seat};
 use schedules::Turn;
 use std::alloc::Global;
@@ -43,7 +43,7 @@ fn go_on(
         pick: 0,
     };
     for _ in world.events()..events {
-        if world.n() == 0 || world.events() >= 1000000 {
+        if world.n() == 0 || world.events() >= MAX_EVENTS {
             return Err(WantOfMemory);
         }
         world.turn(alloc, t, &FreeGate)?;

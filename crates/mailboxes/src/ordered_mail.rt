@@ -24,7 +24,7 @@ pub struct OrderedMail {
     /// By sender, the queue from which its latest letter was taken: it is looked at first.
     recent: [usize; 32],
     ghost rising: { Rises 0 (waiting_in queues.slots) } by { Rises-prop 0 (waiting_in queues.slots) },
-    ghost distinct: { IsDistinct same_letter (waiting_in queues.slots) } by { IsDistinct-prop same_letter (waiting_in queues.slots) },
+    ghost distinct: { IsDistinct same_letter (waiting_in queues.slots) } by { IsDistinct-prop same_letter _ },
 }
 
 /// Whether the slot's letter waits and has this name.

@@ -62,8 +62,8 @@ rule_unread text tree fault o e has r = elim r.cause [
 same_tokens : (text : List ℕ) (tree : Tree) (tokens : List Token) (h : HasTree text tree) → Spells text tokens → UnitOf tokens tree
 same_tokens text tree tokens h s = subst (λ ts. UnitOf ts tree) (spelled_once text h.tokens tokens h.spelled s) h.derived
 
-one_tree : (text : List ℕ) (a b : Tree) → HasTree text a → HasTree text b → a ≡ b
-one_tree text a b h k =
+only_tree : (text : List ℕ) (a b : Tree) → HasTree text a → HasTree text b → a ≡ b
+only_tree text a b h k =
     let u = same_tokens text a k.tokens h k.spelled in
     is_that k.tokens a.items (unit_height a) [] b (unit_full k.tokens a u) k.derived
 
@@ -88,11 +88,11 @@ unrefused : (text : List ℕ) (p : Program) (why : Cause) → Reads text p → R
 unrefused text p why r (by_lexeme fault c e) = not_both text r.has.tokens fault r.has.spelled c
 unrefused text p why r (by_grammar tokens fault s none blame e) = none r.tree (same_tokens text r.tree tokens r.has s)
 unrefused text p why r (by_rule tree fault has k e) =
-    none_in fault (checks tree).faults (subst (λ (t : Tree). (checks t).faults ≡ []) (one_tree text r.tree tree r.has has) r.checked.unbroken) k
+    none_in fault (checks tree).faults (subst (λ (t : Tree). (checks t).faults ≡ []) (only_tree text r.tree tree r.has has) r.checked.unbroken) k
 
 pub only_program : (text : List ℕ) → OneProgram text
 only_program text = record {
   one = λ p q a b. same_program p q
-      (a.checked.same ∙ ap (λ (t : Tree). (checks t).value) (one_tree text a.tree b.tree a.has b.has) ∙ sym b.checked.same);
+      (a.checked.same ∙ ap (λ (t : Tree). (checks t).value) (only_tree text a.tree b.tree a.has b.has) ∙ sym b.checked.same);
   apart = unrefused text;
 }

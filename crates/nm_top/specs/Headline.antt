@@ -111,7 +111,8 @@ pub record ShowsSession (x : Call) {files : Files} {program trace : List ℕ} (h
     (printed : List ℕ) : Type 0 where
   pub lines : List (List ℕ)
   pub last : Session
-  pub talks : Talks h.of_program (seen_trace h.content) first_session x.watchers.watch lines printed last x.watchers.told
+  pub talks : Talks h.of_program (seen_trace h.content) first_session x.watchers.watch lines printed last
+      x.watchers.told
 
 -- Whatever lines a session is given, the run that they leave is one in which each process does a front of what it did
 -- in the recording.

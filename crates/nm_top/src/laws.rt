@@ -31,7 +31,8 @@ pub fn end_law()
         → EndsAfter n input k lines InputFull → passes_limit n input ≡ true }
 {}
 
-/// The finished replay of `soak` has the summary of the recording: of the six lines the second and the fourth are equal.
+/// The finished replay of `soak` has the summary of the recording: of the six lines the second and the fourth are
+/// equal.
 pub fn soak_law()
     ensures { (seed : ℕ) (p : Program) (t : Content) → Soaks seed p t
         → summary_of (soak_finished p t seed).events ≡ summary_of (soak_run p seed) }

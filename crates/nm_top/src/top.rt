@@ -104,8 +104,8 @@ fn work<C: Cabinet, I: Source, O: Sink, W: Watcher>(
     out: &mut O,
     watch: &mut Vec<W>,
 ) -> Status
-    ensures does { Does (call (I.left input.old) (given (map W.watched watch.old.items) (map W.watched watch.new.items)))
-        (texts words.now)
+    ensures does { Does (call (I.left input.old) (given (map W.watched watch.old.items)
+        (map W.watched watch.new.items))) (texts words.now)
         (outside (C.files files.old) (C.absents files.old) (C.read_faults files.old) (C.write_faults files.old)
         (C.sure_room files.old) (O.given out.old) (O.faults out.old))
         (outside (C.files files.new) (C.absents files.new) (C.read_faults files.new) (C.write_faults files.new)
@@ -198,15 +198,16 @@ pub fn racetrace<C: Cabinet, I: Source, O: Sink, W: Watcher>(
     // A command whose demands are met is done, but for a debugger whose input passes its limit: it finds that full.
     ensures complete { IfSome (C.files files.old) (λ held. Ready (texts words.now) held
         → Owed (EndsWith (call (I.left input.old) (given (map W.watched watch.old.items)
-        (map W.watched watch.new.items))) (texts words.now) held) (C.read_faults files.old) (C.read_faults files.new) (I.faults input.old)
-        (I.faults input.new) (C.write_faults files.old) (C.write_faults files.new) (O.faults out.old)
-        (O.faults out.new) result) }
+        (map W.watched watch.new.items))) (texts words.now) held) (C.read_faults files.old)
+        (C.read_faults files.new) (I.faults input.old) (I.faults input.new) (C.write_faults files.old)
+        (C.write_faults files.new) (O.faults out.old) (O.faults out.new) result) }
 
     // Where the files hold the trace of a recorded run of the program that they hold, `replay`, `certify` and `debug`
     // are done, faults and want of memory aside. Each replay, and each session whatever its lines are, makes a front of
     // what each process did in the recorded run, its events, states and output, with the same letter at each receive;
-    // a replay without a schedule comes to the recorded counts. A certificate is printed for each letter that is logged in that run: another run, which keeps both causal
-    // pasts, and in which the last earlier receive that could have accepted the letter accepts it.
+    // a replay without a schedule comes to the recorded counts. A certificate is printed for each letter that is logged
+    // in that run: another run, which keeps both causal pasts, and in which the last earlier receive that could have
+    // accepted the letter accepts it.
     ensures headline { IfSome (C.files files.old) (λ held. Headline
         (call (I.left input.old) (given (map W.watched watch.old.items) (map W.watched watch.new.items)))
         (texts words.now) held

@@ -195,7 +195,9 @@ impl<'c> Machine<'c> {
         }
     }
 
-    /// A machine that stands for the same, with as much memory reserved.
+    /// A machine that stands for the same. The memory for data, frames and operands is reserved as
+    /// in `new`. Of the output only the bytes are copied: room for a print isn't promised, and
+    /// `reserve_output` makes it.
     pub fn copy(&self, alloc: Global) -> Result<Machine<'c>, WantOfMemory>
         ensures same { IfOk result (IsSame self.now) }
         ensures stands { IfOk result

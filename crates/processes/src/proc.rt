@@ -21,6 +21,7 @@ pub enum Look {
 pub trait Proc: Sized + Drop {
     ghost use Rattle.std.specs.Prelude.{◌≡◌, ℕ, ◌+◌, ◌<◌, List, IfOk, OnErr};
     ghost use Rattle.nm_base.specs.declared.letter.ProcNo.{ProcNo};
+    ghost use Rattle.nm_base.specs.declared.limits.TheConstants.{MAX_EVENTS};
     ghost use Rattle.processes.specs.declared.proc.Look.{Look};
     ghost use Rattle.nm_base.specs.Message.{Message, message_of};
     ghost use Rattle.nm_base.specs.Scripts.{Script, IsLawful, letter_made};
@@ -55,7 +56,7 @@ pub trait Proc: Sized + Drop {
     /// yet: its `posted` is 0 and its stamp is all 0. Where memory is refused no event was made.
     fn step(&mut self, alloc: Global) -> Result<(Kind, Option<Letter>), WantOfMemory>
         requires able { look_of self.old ≡ Look.Able }
-        requires room { count_of self.old < 1000000 }
+        requires room { count_of self.old < MAX_EVENTS }
         ensures next { IfOk result (λ r. Makes (stands_for self.old) (stands_for self.new) r.0) }
         ensures letter { IfOk result (λ r. r.1 ≡ letter_made (name_of self.old) r.0) }
         ensures counted { IfOk result (λ r. count_of self.new ≡ count_of self.old + 1) }
@@ -68,7 +69,7 @@ pub trait Proc: Sized + Drop {
     /// Accepts a letter on a channel of the set that it waits with, and gives this event.
     fn give(&mut self, letter: Letter) -> Kind
         requires waiting { CanTake (look_of self.old) letter }
-        requires room { count_of self.old < 1000000 }
+        requires room { count_of self.old < MAX_EVENTS }
         ensures next { Takes (stands_for self.old) (stands_for self.new) (message_of letter) }
         ensures kind { result ≡ accepting (look_of self.old) letter }
         ensures counted { count_of self.new ≡ count_of self.old + 1 }

@@ -1,6 +1,7 @@
 //! Processes typed by what they do next.
 
 ghost use Rattle.std.specs.Prelude.{◌≡◌, ◌+◌, ◌<◌};
+ghost use Rattle.nm_base.specs.declared.limits.TheConstants.{MAX_EVENTS};
 ghost use Rattle.processes.specs.Standing.{Makes, Takes, Stays, CanTake, accepting};
 ghost use Rattle.nm_base.specs.Message.{message_of};
 ghost use Rattle.nm_base.specs.Scripts.{letter_made};
@@ -110,7 +111,7 @@ impl<P: Proc> Able<P> {
     /// Makes the next event. Where memory is refused the process comes back and stands for the same.
     /// It needs a count below 1,000,000.
     pub fn step(self, alloc: Global) -> Stepped<P>
-        requires { P.count_of self < 1000000 }
+        requires { P.count_of self < MAX_EVENTS }
         ensures next { IfMoved result (λ p kind letter. Makes (P.stands_for self) (P.stands_for p) kind) }
         ensures letter { IfMoved result (λ p kind letter. letter ≡ letter_made (P.name_of self) kind) }
         ensures counted { IfMoved result (λ p kind letter. P.count_of p ≡ P.count_of self + 1) }
@@ -148,7 +149,7 @@ impl<P: Proc> Waiting<P> {
     /// Accepts a letter on a channel of the set. It needs a count below 1,000,000.
     pub fn give(self, letter: Letter) -> (Seat<P>, Kind)
         requires channel { CanTake (P.look_of self) letter }
-        requires room { P.count_of self < 1000000 }
+        requires room { P.count_of self < MAX_EVENTS }
         ensures next { Takes (P.stands_for self) (P.stands_for (process_in result.0)) (message_of letter) }
         ensures kind { result.1 ≡ accepting (P.look_of self) letter }
         ensures counted { P.count_of (process_in result.0) ≡ P.count_of self + 1 }

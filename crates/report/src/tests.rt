@@ -159,7 +159,14 @@ fn lines_of_traces(rt: HostRuntime) -> Result<(), Fail> {
     assert!(rt; watched_line(&mut out, 0, b"letters 2").is_ok());
     assert_eq!(rt;
         out.bytes(),
-        b"== trace notes 1, lost 0, bytes 94\n== turns 31, idle 9\nstopped: want of memory after 200 turns\nupgraded: notes 1, lost 2, bytes 98\nsoak 4294967295: N 4, turns 200000\n== certificates 1\n== watch 0: letters 2\n".as_slice()
+        b"== trace notes 1, lost 0, bytes 94\n\
+        == turns 31, idle 9\n\
+        stopped: want of memory after 200 turns\n\
+        upgraded: notes 1, lost 2, bytes 98\n\
+        soak 4294967295: N 4, turns 200000\n\
+        == certificates 1\n\
+        == watch 0: letters 2\n"
+            .as_slice()
     );
     Ok(())
 }
@@ -186,11 +193,15 @@ fn certificates(rt: HostRuntime) -> Result<(), Fail> {
     let table = [
         (
             Some(1),
-            "== letter 2.0 to 0 on 0, receive 1\nearlier receive 0, event 4, set 0x00000001\nturns 0 1 2 0 1 2 0 1 2 1 2 0<2.0\n",
+            "== letter 2.0 to 0 on 0, receive 1\n\
+            earlier receive 0, event 4, set 0x00000001\n\
+            turns 0 1 2 0 1 2 0 1 2 1 2 0<2.0\n",
         ),
         (
             None,
-            "== letter 2.0 to 0 on 0, lost\nearlier receive 0, event 4, set 0x00000001\nturns 0 1 2 0 1 2 0 1 2 1 2 0<2.0\n",
+            "== letter 2.0 to 0 on 0, lost\n\
+            earlier receive 0, event 4, set 0x00000001\n\
+            turns 0 1 2 0 1 2 0 1 2 1 2 0<2.0\n",
         ),
     ];
     for (received, text) in table {
@@ -270,7 +281,17 @@ fn stops(rt: HostRuntime) -> Result<(), Fail> {
     assert!(rt; notice_line(&mut out, Notice::Unknown).is_ok());
     assert_eq!(rt;
         out.bytes(),
-        b"break 0: process 1 line 12\nbreak 15: process 2 recv\nbreak 0 at 1.4 line 12\nwatcher 2 at 1.4 line 12\ncleared 0\nat 600 events\nwatch 0: faults 1\ndetached 0\nidle letter\n?\n".as_slice()
+        b"break 0: process 1 line 12\n\
+        break 15: process 2 recv\n\
+        break 0 at 1.4 line 12\n\
+        watcher 2 at 1.4 line 12\n\
+        cleared 0\n\
+        at 600 events\n\
+        watch 0: faults 1\n\
+        detached 0\n\
+        idle letter\n\
+        ?\n"
+            .as_slice()
     );
     Ok(())
 }
@@ -291,7 +312,15 @@ fn looks(rt: HostRuntime) -> Result<(), Fail> {
     assert!(rt; output_text(&mut out, b"").is_ok());
     assert_eq!(rt;
         out.bytes(),
-        b"process 0 faulted Index line 9, 5 of 6 events\nprocess 1 waiting 0x00000003 line 4, 0 of 2 events\n#1 main line 3\nx = -1\na[2] = 4294967295\n2 bytes\nhi\n0 bytes\n".as_slice()
+        b"process 0 faulted Index line 9, 5 of 6 events\n\
+        process 1 waiting 0x00000003 line 4, 0 of 2 events\n\
+        #1 main line 3\n\
+        x = -1\n\
+        a[2] = 4294967295\n\
+        2 bytes\n\
+        hi\n\
+        0 bytes\n"
+            .as_slice()
     );
     Ok(())
 }

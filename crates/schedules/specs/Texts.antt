@@ -32,6 +32,7 @@ use Rattle.std.specs.Prelude.{
   slice_index,
   if◌then◌else◌,
 }
+use Rattle.nm_base.specs.declared.limits.TheConstants.{MAX_TURNS}
 use Rattle.schedules.specs.declared.schedule.Turn.{Turn}
 use Rattle.schedules.specs.declared.reader.Entry.{Entry}
 use Rattle.schedules.specs.declared.reader.ScheduleFault.{ScheduleFault}
@@ -117,7 +118,7 @@ spelled w = spelled_by (position is_mark w) w
 abbrev pub admitted_entry : ℕ → ℕ → ℕ → Option Entry → Result Entry ScheduleFault
 admitted_entry n made place None = Err (BadWord place)
 admitted_entry n made place (Some e) =
-    if nat_lt e.proc n then (if nat_le (made + e.times) 1000000 then Ok e else Err (TooMany place))
+    if nat_lt e.proc n then (if nat_le (made + e.times) MAX_TURNS then Ok e else Err (TooMany place))
     else Err (NoProcess place)
 
 abbrev pub admitted : ℕ → ℕ → Word → Result Entry ScheduleFault

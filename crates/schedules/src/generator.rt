@@ -1,6 +1,7 @@
 //! Schedules from a seed.
 
 ghost use Rattle.std.specs.Prelude.{◌≡◌, ◌<◌, ◌≤◌, IfOk};
+ghost use Rattle.nm_base.specs.declared.limits.TheConstants.{MAX_TURNS};
 ghost use Rattle.schedules.specs.Bounds.{AreFewTurns};
 ghost use Rattle.schedules.specs.Generated.{next_number, numbered_turn, generated_turns};
 
@@ -36,7 +37,7 @@ fn turn_of(x: u32, n: u8) -> Turn
 pub fn generated(alloc: Global, seed: u32, n: u8, turns: u32) -> Result<Schedule, WantOfMemory>
     requires some { 0 < n }
     requires few { n ≤ 32 }
-    requires many { turns ≤ 1000000 }
+    requires many { turns ≤ MAX_TURNS }
     ensures list { IfOk result (λ s. s ≡ generated_turns n seed turns) }
     ensures turns { IfOk result (AreFewTurns n) }
 {

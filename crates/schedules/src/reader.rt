@@ -1,12 +1,13 @@
 //! Schedules from text.
 
 ghost use Rattle.std.specs.Prelude.{◌≡◌, ◌<◌, ◌≤◌, ◌⊎◌, ◌++◌, length, position, replicate, IfOk, OnOk, IfErr};
+ghost use Rattle.nm_base.specs.declared.limits.TheConstants.{MAX_TURNS};
 ghost use Rattle.schedules.specs.Bounds.{AreFewTurns};
 ghost use Rattle.schedules.specs.Texts.{is_blank, word_length, is_mark, is_digit, number_of, spelled, admitted_entry, text_turns};
 ghost use Rattle.schedules.specs.declared.reader.ScheduleFault.TheVariants.{Memory};
 
 use crate::schedule::{Schedule, Turn};
-use nm_base::{ProcNo, WantOfMemory};
+use nm_base::{MAX_TURNS, ProcNo, WantOfMemory};
 use std::alloc::Global;
 use thiserror::Error;
 
@@ -20,7 +21,7 @@ pub enum ScheduleFault {
     #[error("at {place}: no such process")]
     NoProcess { place: u32 },
     /// The turns up to and with it are more than 1,000,000.
-    #[error("at {place}: more than 1000000 turns")]
+    #[error("at {place}: more than {most} turns", most = MAX_TURNS)]
     TooMany { place: u32 },
     /// Memory was refused.
     #[error("out of memory")]
@@ -174,7 +175,7 @@ fn number(digits: &[u8]) -> Option<u32>
 
 /// What is wrong with a word at this place, for n processes and after so many turns, if anything.
 fn admitted(n: u8, made: u32, place: u32, word: Option<Entry>) -> Result<Entry, ScheduleFault>
-    requires { made ≤ 1000000 }
+    requires { made ≤ MAX_TURNS }
     ensures { result ≡ admitted_entry n made place word }
 {
     let Some(entry) = word else {
@@ -183,7 +184,7 @@ fn admitted(n: u8, made: u32, place: u32, word: Option<Entry>) -> Result<Entry, 
     if entry.proc >= u32::from(n) {
         return Err(ScheduleFault::NoProcess { place });
     }
-    if entry.times > 1000000 - made {
+    if entry.times > MAX_TURNS - made {
         return Err(ScheduleFault::TooMany { place });
     }
     Ok(entry)

@@ -1,6 +1,7 @@
 //! The turns of a schedule.
 
 ghost use Rattle.std.specs.Prelude.{◌≡◌, ◌<◌, ◌≤◌, length, slice_get, Some};
+ghost use Rattle.nm_base.specs.declared.limits.TheConstants.{MAX_TURNS};
 
 use nm_base::ProcNo;
 use std::marker::Model;
@@ -21,19 +22,20 @@ pub struct Schedule {
 
 impl Model for Schedule {
     ghost use Rattle.std.specs.Prelude.{List, length, ◌≤◌};
+    ghost use Rattle.nm_base.specs.declared.limits.TheConstants.{MAX_TURNS};
     ghost use Rattle.schedules.specs.declared.schedule.Turn.{Turn};
 
     ghost Value = { List Turn };
 
     ghost view = { λ s. s.turns.items };
 
-    ghost invariant = { λ s. length s.turns.items ≤ 1000000 };
+    ghost invariant = { λ s. length s.turns.items ≤ MAX_TURNS };
 }
 
 impl Schedule {
     /// The schedule of these turns.
     pub(crate) fn from_vec(turns: Vec<Turn>) -> Schedule
-        requires { length turns.items ≤ 1000000 }
+        requires { length turns.items ≤ MAX_TURNS }
         ensures { result ≡ turns.items }
     {
         Schedule { turns }

@@ -60,3 +60,27 @@ fn gives_turns(rt: HostRuntime) -> Result<(), Fail> {
     }
     Ok(())
 }
+
+/// What is displayed for each refusal.
+#[test]
+fn displays_refusals(rt: HostRuntime) -> Result<(), Fail> {
+    let rows: [(ScheduleFault, &str); 4] = [
+        (
+            ScheduleFault::BadWord { place: 0 },
+            "at 0: not a word of a schedule",
+        ),
+        (
+            ScheduleFault::NoProcess { place: 12 },
+            "at 12: no such process",
+        ),
+        (
+            ScheduleFault::TooMany { place: 4194303 },
+            "at 4194303: more than 1000000 turns",
+        ),
+        (ScheduleFault::Memory, "out of memory"),
+    ];
+    for (fault, text) in rows {
+        assert_eq!(rt; format!(in rt.alloc(); "{fault}")?.as_str(), text);
+    }
+    Ok(())
+}

@@ -11,7 +11,7 @@ use Rattle.stack_code.specs.declared.layout.Layout.{Layout}
 use Rattle.stack_code.specs.declared.seek.CodePlace.{CodePlace}
 use Rattle.stack_code.specs.Code.{Placed, FunctionCode, entered_by, steps_by}
 use Rattle.stack_code.specs.Blocks.{entered_in, table_of, placed_in, blocks_nest}
-use Rattle.stack_code.specs.Layout.{part, laid_function_of, functions_in, follow_from, is_part, is_laid_out, laid_view}
+use Rattle.stack_code.specs.Layout.{slice_of, laid_function_of, functions_in, follow_from, is_part, is_laid_out, laid_view}
 use Rattle.stack_code.specs.Together.{steps_together}
 use Rattle.stack_code.specs.Valid.{is_within, is_fit_function, laid_out_from, words_of_all}
 use Rattle.stack_code.specs.Seek.{found_among, found_by, IsPlaceIn}
@@ -54,11 +54,11 @@ get_take (suc n) [] k h = refl
 get_take (suc n) (x ∷ xs) zero h = refl
 get_take (suc n) (x ∷ xs) (suc k) h = get_take n xs k (omega (arith, h))
 
-get_part : {A : Type 0} (start len : ℕ) (xs : List A) (k : ℕ) → k < len → slice_get (part start len xs) k ≡ slice_get xs (start + k)
-get_part start len xs k h = get_take len (drop start xs) k h ∙ get_drop start xs k
+get_slice : {A : Type 0} (start len : ℕ) (xs : List A) (k : ℕ) → k < len → slice_get (slice_of start len xs) k ≡ slice_get xs (start + k)
+get_slice start len xs k h = get_take len (drop start xs) k h ∙ get_drop start xs k
 
-pub part_length : {A : Type 0} (start len : ℕ) (xs : List A) → start + len ≤ length xs → length (part start len xs) ≡ len
-part_length start len xs h = length-take-le len (drop start xs) (omega (arith, h, length-drop start xs))
+pub slice_length : {A : Type 0} (start len : ℕ) (xs : List A) → start + len ≤ length xs → length (slice_of start len xs) ≡ len
+slice_length start len xs h = length-take-le len (drop start xs) (omega (arith, h, length-drop start xs))
 
 -- ---- the instructions of all functions
 
@@ -73,7 +73,7 @@ module _ (is : List Instr) (ns : List ℕ) (numbered : length ns ≡ length is) 
 
   module _ (f : LaidFunction) (fits : is_part ns f ≡ true) where
     abbrev known : Bool
-    known = list_all (λ n. nat_le n (length f.blocks.items)) (part f.start f.len ns)
+    known = list_all (λ n. nat_le n (length f.blocks.items)) (slice_of f.start f.len ns)
 
     abbrev within : Bool
     within = nat_le (f.start + f.len) (length ns)
@@ -87,31 +87,31 @@ module _ (is : List Instr) (ns : List ℕ) (numbered : length ns ≡ length is) 
     pub nest_is : IsTrue (blocks_nest 0 f.blocks.items)
     nest_is = (both (within && known) (blocks_nest 0 f.blocks.items) fits).1
 
-    part_numbered : length (part f.start f.len ns) ≡ length (part f.start f.len is)
-    part_numbered =
+    slice_numbered : length (slice_of f.start f.len ns) ≡ length (slice_of f.start f.len is)
+    slice_numbered =
         let e = ends_within in
-        let a = part_length f.start f.len ns e in
-        let b = part_length f.start f.len is (omega (arith, e, numbered)) in
+        let a = slice_length f.start f.len ns e in
+        let b = slice_length f.start f.len is (omega (arith, e, numbered)) in
         omega (arith, a, b)
 
     pub steps_count : length (of f).steps ≡ f.len
     steps_count =
         let e = ends_within in
-        placed_length (table_of f.blocks.items) (part f.start f.len is) (part f.start f.len ns) part_numbered
-        ∙ part_length f.start f.len is (omega (arith, e, numbered))
+        placed_length (table_of f.blocks.items) (slice_of f.start f.len is) (slice_of f.start f.len ns) slice_numbered
+        ∙ slice_length f.start f.len is (omega (arith, e, numbered))
 
-    steps_instrs : map (λ (x : Placed). x.instr) (of f).steps ≡ part f.start f.len is
-    steps_instrs = placed_instrs (table_of f.blocks.items) (part f.start f.len is) (part f.start f.len ns) part_numbered
+    steps_instrs : map (λ (x : Placed). x.instr) (of f).steps ≡ slice_of f.start f.len is
+    steps_instrs = placed_instrs (table_of f.blocks.items) (slice_of f.start f.len is) (slice_of f.start f.len ns) slice_numbered
 
     module _ (place n : ℕ) (lt : place < f.len) (here : n ≡ get_or ns (f.start + place) n) where
-      number_is : slice_get (part f.start f.len ns) place ≡ Some n
-      number_is = let e = ends_within in get_part f.start f.len ns place lt ∙ got ns (f.start + place) n (omega (arith, lt, e)) here
+      number_is : slice_get (slice_of f.start f.len ns) place ≡ Some n
+      number_is = let e = ends_within in get_slice f.start f.len ns place lt ∙ got ns (f.start + place) n (omega (arith, lt, e)) here
 
       pub known_is : n ≤ length f.blocks.items
-      known_is = leb-true n (length f.blocks.items) (all_at (λ m. nat_le m (length f.blocks.items)) (part f.start f.len ns) place n all_known number_is)
+      known_is = leb-true n (length f.blocks.items) (all_at (λ m. nat_le m (length f.blocks.items)) (slice_of f.start f.len ns) place n all_known number_is)
 
       pub entered_is : entered_by (slice_get (of f).steps place) ≡ entered_in (table_of f.blocks.items) n
-      entered_is = ap entered_by (placed_entered (table_of f.blocks.items) (part f.start f.len is) (part f.start f.len ns) place n part_numbered number_is).1
+      entered_is = ap entered_by (placed_entered (table_of f.blocks.items) (slice_of f.start f.len is) (slice_of f.start f.len ns) place n slice_numbered number_is).1
 
   instrs_from : (fs : List LaidFunction) (place : ℕ) → follow_from place fs (length is) ≡ true → list_all (is_part ns) fs ≡ true → map (λ (x : Placed). x.instr) (steps_together (map of fs)) ≡ drop place is
   instrs_from [] place follow parts = let e = eqb-true place (length is) follow in sym (drop_all place is (omega (arith, e)))
@@ -119,8 +119,8 @@ module _ (is : List Instr) (ns : List ℕ) (numbered : length ns ≡ length is) 
       let h = both (f.start == place) (follow_from (place + f.len) fs (length is)) follow in
       let p = both (is_part ns f) (list_all (is_part ns) fs) parts in
       map-append (λ (x : Placed). x.instr) (of f).steps (steps_together (map of fs))
-      ∙ ap (λ l. l ++ map (λ (x : Placed). x.instr) (steps_together (map of fs))) (steps_instrs f p.0 ∙ ap (λ s. part s f.len is) (eqb-true f.start place h.0))
-      ∙ ap (λ l. part place f.len is ++ l) (instrs_from fs (place + f.len) h.1 p.1 ∙ sym (drop-drop f.len place is))
+      ∙ ap (λ l. l ++ map (λ (x : Placed). x.instr) (steps_together (map of fs))) (steps_instrs f p.0 ∙ ap (λ s. slice_of s f.len is) (eqb-true f.start place h.0))
+      ∙ ap (λ l. slice_of place f.len is ++ l) (instrs_from fs (place + f.len) h.1 p.1 ∙ sym (drop-drop f.len place is))
       ∙ take-append-drop f.len (drop place is)
 
   start_from : (fs : List LaidFunction) (place g : ℕ) (f : LaidFunction) → follow_from place fs (length is) ≡ true → list_all (is_part ns) fs ≡ true → slice_get fs g ≡ Some f

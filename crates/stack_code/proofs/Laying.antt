@@ -9,7 +9,7 @@ use Rattle.stack_code.specs.declared.code.CodeFunction.{CodeFunction}
 use Rattle.stack_code.specs.declared.layout.LaidFunction.{LaidFunction}
 use Rattle.stack_code.specs.Code.{Placed, FunctionCode}
 use Rattle.stack_code.specs.Blocks.{table_of, placed_in, blocks_nest, function_of, is_kept}
-use Rattle.stack_code.specs.Layout.{part, laid_function_of, follow_from, is_part, is_laid_out}
+use Rattle.stack_code.specs.Layout.{slice_of, laid_function_of, follow_from, is_part, is_laid_out}
 use Rattle.stack_code.proofs.Laid.{both, ends_within, all_known, nest_is, numbered_is, follow_is, split}
 
 and_true : (a b : Bool) → a ≡ true → b ≡ true → (a && b) ≡ true
@@ -20,15 +20,15 @@ pub nothing_left : {A : Type 0} (xs : List A) → length xs ≡ 0 → xs ≡ []
 nothing_left [] h = refl
 nothing_left (x ∷ xs) h = absurd (omega (arith, h))
 
-part_left : {A : Type 0} (start len : ℕ) (xs ys : List A) → start + len ≤ length xs → part start len (xs ++ ys) ≡ part start len xs
-part_left start len xs ys h = ap (take len) (drop-append-le start xs ys (omega (arith, h))) ∙ take-append-le len (drop start xs) ys (omega (arith, h, length-drop start xs))
+slice_left : {A : Type 0} (start len : ℕ) (xs ys : List A) → start + len ≤ length xs → slice_of start len (xs ++ ys) ≡ slice_of start len xs
+slice_left start len xs ys h = ap (take len) (drop-append-le start xs ys (omega (arith, h))) ∙ take-append-le len (drop start xs) ys (omega (arith, h, length-drop start xs))
 
 drop_front : {A : Type 0} (xs ys : List A) → drop (length xs) (xs ++ ys) ≡ ys
 drop_front [] ys = refl
 drop_front (x ∷ xs) ys = drop_front xs ys
 
-part_right : {A : Type 0} (start len : ℕ) (xs ys : List A) → start ≡ length xs → len ≡ length ys → part start len (xs ++ ys) ≡ ys
-part_right start len xs ys e n = ap (λ k. part k len (xs ++ ys)) e ∙ ap (take len) (drop_front xs ys) ∙ take_all len ys (omega (arith, n))
+slice_right : {A : Type 0} (start len : ℕ) (xs ys : List A) → start ≡ length xs → len ≡ length ys → slice_of start len (xs ++ ys) ≡ ys
+slice_right start len xs ys e n = ap (λ k. slice_of k len (xs ++ ys)) e ∙ ap (take len) (drop_front xs ys) ∙ take_all len ys (omega (arith, n))
 
 -- a laid function with these steps
 abbrev with_steps : LaidFunction → List Placed → FunctionCode
@@ -73,8 +73,8 @@ module _ (is js : List Instr) (ns ms : List ℕ) (numbered : length ns ≡ lengt
   part_stays f h =
       let e = ends_within is ns numbered f h in
       let within = nat_le (f.start + f.len) (length (ns ++ ms)) in
-      let known = list_all (λ n. nat_le n (length f.blocks.items)) (part f.start f.len (ns ++ ms)) in
-      let k : known ≡ true = ap (list_all (λ n. nat_le n (length f.blocks.items))) (part_left f.start f.len ns ms e) ∙ all_known is ns numbered f h in
+      let known = list_all (λ n. nat_le n (length f.blocks.items)) (slice_of f.start f.len (ns ++ ms)) in
+      let k : known ≡ true = ap (list_all (λ n. nat_le n (length f.blocks.items))) (slice_left f.start f.len ns ms e) ∙ all_known is ns numbered f h in
       and_true (within && known) (blocks_nest 0 f.blocks.items) (and_true within known (le-leb (f.start + f.len) (length (ns ++ ms)) (omega (arith, e, length-append ns ms))) k) (nest_is is ns numbered f h)
 
   parts_stay : (fs : List LaidFunction) → list_all (is_part ns) fs ≡ true → list_all (is_part (ns ++ ms)) fs ≡ true
@@ -84,8 +84,8 @@ module _ (is js : List Instr) (ns ms : List ℕ) (numbered : length ns ≡ lengt
   stays : (f : LaidFunction) → is_part ns f ≡ true → laid_function_of (is ++ js) (ns ++ ms) f ≡ laid_function_of is ns f
   stays f h =
       let e = ends_within is ns numbered f h in
-      ap (λ a. with_steps f (placed_in (table_of f.blocks.items) a (part f.start f.len (ns ++ ms)))) (part_left f.start f.len is js (omega (arith, e, numbered)))
-      ∙ ap (λ b. with_steps f (placed_in (table_of f.blocks.items) (part f.start f.len is) b)) (part_left f.start f.len ns ms e)
+      ap (λ a. with_steps f (placed_in (table_of f.blocks.items) a (slice_of f.start f.len (ns ++ ms)))) (slice_left f.start f.len is js (omega (arith, e, numbered)))
+      ∙ ap (λ b. with_steps f (placed_in (table_of f.blocks.items) (slice_of f.start f.len is) b)) (slice_left f.start f.len ns ms e)
 
   all_stay : (fs : List LaidFunction) → list_all (is_part ns) fs ≡ true → map (laid_function_of (is ++ js) (ns ++ ms)) fs ≡ map (laid_function_of is ns) fs
   all_stay [] h = refl
@@ -119,17 +119,17 @@ module _ (fs : List LaidFunction) (is : List Instr) (ns : List ℕ) (laid : IsTr
   numbered : length ns ≡ length is
   numbered = numbered_is fs is ns laid
 
-  part_inside : part start len (ns ++ ms) ≡ ms
-  part_inside = part_right start len ns ms (starts ∙ sym numbered) (lens ∙ sym same_count)
+  slice_inside : slice_of start len (ns ++ ms) ≡ ms
+  slice_inside = slice_right start len ns ms (starts ∙ sym numbered) (lens ∙ sym same_count)
 
   last_part : is_part (ns ++ ms) g ≡ true
   last_part =
       let within = nat_le (start + len) (length (ns ++ ms)) in
-      let there = list_all (λ n. nat_le n (length f.blocks.items)) (part start len (ns ++ ms)) in
+      let there = list_all (λ n. nat_le n (length f.blocks.items)) (slice_of start len (ns ++ ms)) in
       let a = numbered in
       let b = same_count in
       and_true (within && there) (blocks_nest 0 f.blocks.items)
-      (and_true within there (le-leb (start + len) (length (ns ++ ms)) (omega (arith, starts, lens, a, b, length-append ns ms))) (ap (list_all (λ n. nat_le n (length f.blocks.items))) part_inside ∙ (both even known halves.0).1)) halves.1
+      (and_true within there (le-leb (start + len) (length (ns ++ ms)) (omega (arith, starts, lens, a, b, length-append ns ms))) (ap (list_all (λ n. nat_le n (length f.blocks.items))) slice_inside ∙ (both even known halves.0).1)) halves.1
 
   laid_more : IsTrue (is_laid_out (fs ++ g ∷ []) (is ++ js) (ns ++ ms))
   laid_more =
@@ -144,8 +144,8 @@ module _ (fs : List LaidFunction) (is : List Instr) (ns : List ℕ) (laid : IsTr
 
   last_is : laid_function_of (is ++ js) (ns ++ ms) g ≡ function_of f
   last_is =
-      ap (λ a. with_steps g (placed_in (table_of f.blocks.items) a (part start len (ns ++ ms)))) (part_right start len is js starts lens)
-      ∙ ap (λ b. with_steps g (placed_in (table_of f.blocks.items) js b)) part_inside
+      ap (λ a. with_steps g (placed_in (table_of f.blocks.items) a (slice_of start len (ns ++ ms)))) (slice_right start len is js starts lens)
+      ∙ ap (λ b. with_steps g (placed_in (table_of f.blocks.items) js b)) slice_inside
 
   seen_more : map (laid_function_of (is ++ js) (ns ++ ms)) (fs ++ g ∷ []) ≡ map (laid_function_of is ns) fs ++ function_of f ∷ []
   seen_more =

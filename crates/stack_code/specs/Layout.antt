@@ -9,13 +9,13 @@ use Rattle.stack_code.specs.Code.{FunctionCode, Code}
 use Rattle.stack_code.specs.Blocks.{table_of, placed_in, blocks_nest}
 
 -- so many items from a place on
-abbrev pub part : {A : Type 0} → ℕ → ℕ → List A → List A
-part start len xs = take len (drop start xs)
+abbrev pub slice_of : {A : Type 0} → ℕ → ℕ → List A → List A
+slice_of start len xs = take len (drop start xs)
 
 abbrev pub laid_function_of : List Instr → List ℕ → LaidFunction → FunctionCode
 laid_function_of instrs inside f = record {
   name = string_bytes f.name;
-  steps = placed_in (table_of f.blocks.items) (part f.start f.len instrs) (part f.start f.len inside);
+  steps = placed_in (table_of f.blocks.items) (slice_of f.start f.len instrs) (slice_of f.start f.len inside);
   line = f.line;
   param_words = f.param_words;
   frame_words = f.frame_words;
@@ -36,7 +36,7 @@ follow_from place (f ∷ fs) end = f.start == place && follow_from (place + f.le
 abbrev pub is_part : List ℕ → LaidFunction → Bool
 is_part inside f =
     nat_le (f.start + f.len) (length inside) && list_all (λ n. nat_le n (length f.blocks.items))
-    (part f.start f.len inside) && blocks_nest 0 f.blocks.items
+    (slice_of f.start f.len inside) && blocks_nest 0 f.blocks.items
 
 abbrev pub is_laid_out : List LaidFunction → List Instr → List ℕ → Bool
 is_laid_out functions instrs inside =

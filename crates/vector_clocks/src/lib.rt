@@ -27,8 +27,10 @@ impl Model for Clocks {
 }
 
 impl Clocks {
-    /// The clocks of n processes before their first events: all parts are 0. A clock has 32 parts
-    /// whatever n is, and those from n on stay 0 as long as nothing else is brought to them.
+    /// The clocks of n processes before their first events: all parts are 0. The number tells the
+    /// reader of a call how many processes there are, and nothing is made by it: there are 32 clocks
+    /// of 32 parts whatever n is, and the parts from n on stay 0 as long as nothing else is brought
+    /// to them.
     pub fn new(_n: u8) -> Clocks
         ensures { (p q : ℕ) → part_of result p q ≡ 0 }
     {

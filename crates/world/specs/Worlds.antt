@@ -3,6 +3,7 @@ use Rattle.std.specs.Prelude.{◌≡◌, ℕ, ◌<◌, ◌≤◌, List, length, 
 use Rattle.nm_base.specs.declared.letter.ProcNo.{ProcNo}
 use Rattle.nm_base.specs.declared.letter.Stamp.{Stamp}
 use Rattle.nm_base.specs.declared.letter.Letter.{Letter}
+use Rattle.nm_base.specs.declared.limits.TheConstants.{MAX_EVENTS}
 use Rattle.nm_base.specs.Message.{message_of}
 use Rattle.nm_base.specs.Scripts.{Script, letter_made}
 use Rattle.processes.specs.Standing.{Standing}
@@ -71,7 +72,7 @@ AreNumbered {P} name_of ps = (p : ℕ) (x : P) → slice_get ps p ≡ Some x →
 pub record IsWorld {P M : Type 0} (stands_for : P → Standing) (name_of : P → ProcNo) (w : Parts P M) : Type 0 where
   pub some : 0 < length w.processes
   pub few : length w.processes ≤ 32
-  pub room : w.events ≤ 1000000
+  pub room : w.events ≤ MAX_EVENTS
   pub each : length w.receives ≡ 32
   pub names : AreNumbered name_of w.processes
   pub run : (s : ℕ → Script) × (E : List Event) × IsWorldOf stands_for w s E

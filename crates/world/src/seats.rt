@@ -3,6 +3,7 @@
 ghost use Rattle.std.specs.Prelude.{◌≡◌, ℕ, ◌<◌, ◌≤◌, [], ◌∷◌, ◌++◌, length, Some, slice_get, map, IfOk, OnErr};
 ghost use Rattle.std.specs.Vec.{vec_len, vec_capacity};
 ghost use Rattle.std.specs.List.{swap};
+ghost use Rattle.nm_base.specs.declared.limits.TheConstants.{MAX_EVENTS};
 ghost use Rattle.processes.specs.declared.proc.Look.{Look};
 ghost use Rattle.processes.specs.Standing.{Makes, Takes, Stays, CanTake, accepting};
 ghost use Rattle.nm_base.specs.Message.{message_of};
@@ -68,7 +69,7 @@ impl<P: Proc> Seats<P> {
     ) -> Result<(Kind, Option<Letter>), WantOfMemory>
         requires place { i < length self.old }
         requires able { (x : P) → slice_get self.old i ≡ Some x → P.look_of x ≡ Look.Able }
-        requires room { (x : P) → slice_get self.old i ≡ Some x → P.count_of x < 1000000 }
+        requires room { (x : P) → slice_get self.old i ≡ Some x → P.count_of x < MAX_EVENTS }
         ensures made { IfOk result (λ r. MadeAt P.stands_for P.name_of self.old self.new i r.0 r.1) }
         ensures refused { OnErr result (StayedAt P.stands_for P.name_of self.old self.new i) }
         ensures origins { map P.origin_of self.new ≡ map P.origin_of self.old }
@@ -83,7 +84,7 @@ impl<P: Proc> Seats<P> {
     pub(crate) fn give(&mut self, i: usize, letter: Letter) -> Kind
         requires place { i < length self.old }
         requires waiting { (x : P) → slice_get self.old i ≡ Some x → CanTake (P.look_of x) letter }
-        requires room { (x : P) → slice_get self.old i ≡ Some x → P.count_of x < 1000000 }
+        requires room { (x : P) → slice_get self.old i ≡ Some x → P.count_of x < MAX_EVENTS }
         ensures took { TookAt P.stands_for P.name_of self.old self.new i letter }
         ensures kind { (x : P) → slice_get self.old i ≡ Some x → result ≡ accepting (P.look_of x) letter }
         ensures origins { map P.origin_of self.new ≡ map P.origin_of self.old }
@@ -133,7 +134,7 @@ fn step_seat<P: Proc>(
     alloc: Global,
 ) -> (Seat<P>, Result<(Kind, Option<Letter>), WantOfMemory>)
     requires able { P.look_of (process_in seat) ≡ Look.Able }
-    requires room { P.count_of (process_in seat) < 1000000 }
+    requires room { P.count_of (process_in seat) < MAX_EVENTS }
     ensures made { IfOk result.1
         (λ r. Makes (P.stands_for (process_in seat)) (P.stands_for (process_in result.0)) r.0) }
     ensures letter { IfOk result.1 (λ r. r.1 ≡ letter_made (P.name_of (process_in seat)) r.0) }
@@ -155,7 +156,7 @@ fn step_seat<P: Proc>(
 /// The seat after its process accepted the letter, and this event.
 fn give_seat<P: Proc>(seat: Seat<P>, letter: Letter) -> (Seat<P>, Kind)
     requires waiting { CanTake (P.look_of (process_in seat)) letter }
-    requires room { P.count_of (process_in seat) < 1000000 }
+    requires room { P.count_of (process_in seat) < MAX_EVENTS }
     ensures took { Takes (P.stands_for (process_in seat)) (P.stands_for (process_in result.0)) (message_of letter) }
     ensures kind { result.1 ≡ accepting (P.look_of (process_in seat)) letter }
     ensures name { P.name_of (process_in result.0) ≡ P.name_of (process_in seat) }

@@ -4,7 +4,7 @@ ghost use Rattle.std.specs.Prelude.{◌≡◌, [], ◌∷◌};
 
 use crate::{Idle, Turned, World};
 use mailboxes::{FreeGate, ListMail, Mail};
-use nm_base::{Kind, LetterId, ProcNo, WantOfMemory};
+use nm_base::{Kind, LetterId, MAX_EVENTS, ProcNo, WantOfMemory};
 use processes::{Listed, Proc, Seat};
 use schedules::Turn;
 use std::alloc::Global;
@@ -60,7 +60,7 @@ fn one_talker(alloc: Global) -> Result<World<Listed, ListMail>, WantOfMemory> {
 }
 
 fn next(world: &mut World<Listed, ListMail>, alloc: Global) -> Result<Turned, WantOfMemory> {
-    if world.n() == 0 || world.events() >= 1000000 {
+    if world.n() == 0 || world.events() >= MAX_EVENTS {
         return Err(WantOfMemory);
     }
     let t = Turn {

@@ -2,6 +2,7 @@
 
 ghost use Rattle.std.specs.Prelude.{◌≡◌, ℕ, ◌+◌, ◌%◌, ◌<◌, ◌≤◌, List, [], ◌∷◌, ◌++◌, length, true, false, Some, slice_get, map, option_map, IfOk, OnErr, Contains};
 ghost use Rattle.std.specs.Option.{option_to_list};
+ghost use Rattle.nm_base.specs.declared.limits.TheConstants.{MAX_EVENTS};
 ghost use Rattle.processes.specs.declared.proc.Look.{Look};
 ghost use Rattle.nm_base.specs.Scripts.{Script};
 ghost use Rattle.processes.specs.Seats.{process_in};
@@ -127,7 +128,7 @@ impl<P: Proc, M: Mail> World<P, M> {
     ) -> Result<Turned, WantOfMemory>
         requires process { t.proc.no < length self.old.processes }
         requires room { (x : P) → slice_get self.old.processes t.proc.no ≡ Some x
-            → G.lets_go gate.now t.proc.no (P.count_of x) ≡ true → self.old.events < 1000000 }
+            → G.lets_go gate.now t.proc.no (P.count_of x) ≡ true → self.old.events < MAX_EVENTS }
         ensures turned { IfOk result (λ what. (s : ℕ → Script) (E : List Event) → IsWorldOf P.stands_for self.old s E
             → HasTurned P.stands_for self.old.mask (record { lets = G.lets gate.now; lets_go = G.lets_go gate.now })
             self.new s E (record { proc = t.proc.no; pick = t.pick }) what) }
@@ -252,7 +253,7 @@ impl<P: Proc, M: Mail> World<P, M> {
     fn make(&mut self, alloc: Global, p: ProcNo) -> Result<Turned, WantOfMemory>
         requires process { p.no < length self.old.processes }
         requires able { (x : P) → slice_get self.old.processes p.no ≡ Some x → P.look_of x ≡ Look.Able }
-        requires room { self.old.events < 1000000 }
+        requires room { self.old.events < MAX_EVENTS }
         ensures made { IfOk result (λ what. (s : ℕ → Script) (E : List Event) → IsWorldOf P.stands_for self.old s E
             → HasMade P.stands_for self.new s E p.no what) }
         ensures refused { OnErr result (StandsForAll P.stands_for self.old self.new) }
@@ -279,7 +280,7 @@ impl<P: Proc, M: Mail> World<P, M> {
     fn accept<G: Gate>(&mut self, t: Turn, set: u32, gate: &G) -> Turned
         requires process { t.proc.no < length self.old.processes }
         requires waiting { (x : P) → slice_get self.old.processes t.proc.no ≡ Some x → P.look_of x ≡ Look.Waiting set }
-        requires room { self.old.events < 1000000 }
+        requires room { self.old.events < MAX_EVENTS }
         ensures accepted { (s : ℕ → Script) (E : List Event) → IsWorldOf P.stands_for self.old s E
             → HasAccepted P.stands_for self.old.mask (record { lets = G.lets gate.now; lets_go = G.lets_go gate.now })
             self.new s E t.proc.no set t.pick result }
@@ -338,7 +339,7 @@ fn post<M: Mail>(
 ) -> (Option<Letter>, u32)
     requires room { 0 < M.spare mail.old }
     requires last { (w : Letter) → Contains (M.letters mail.old) w → w.posted < sent }
-    requires few { sent < 1000000 }
+    requires few { sent < MAX_EVENTS }
     requires unnamed { (l : Letter) → letter ≡ Some l → (w : Letter) → Contains (M.letters mail.old) w
         → is_named l.id w ≡ false }
     ensures letter { result.0 ≡ option_map (stamped sent stamp) letter }

@@ -30,7 +30,8 @@ use Rattle.nm_top.specs.private.Replaying.{ReplaysProgram}
 
 -- why there is no program: its text is none, or there was want of memory
 abbrev pub IsOwnStop : Stop → Type 0
-IsOwnStop (Refused r) = (status_of r ≡ ProgramRefused) × ((files : Files) → IsReason OwnProgram files [] (refusal_line r))
+IsOwnStop (Refused r) =
+    (status_of r ≡ ProgramRefused) × ((files : Files) → IsReason OwnProgram files [] (refusal_line r))
 IsOwnStop Memory = ⊤
 
 -- the program was recorded under all turns that the seed gives, and this file has the trace
@@ -38,7 +39,8 @@ pub record HasSoaked {M : Type 0} (p : Program) (digest : List ℕ) (seed : ℕ)
     (files : Files) : Type 0 where
   pub runs : RunsProgram r.world p (soak_run p seed)
   pub content : Content
-  pub is_trace : IsContentOf (record { version = 1; mask = 0; n = SOAK_PROCESSES; digest = digest }) (soak_run p seed) content
+  pub is_trace : IsContentOf (record { version = 1; mask = 0; n = SOAK_PROCESSES; digest = digest }) (soak_run p seed)
+      content
   pub notes_are : r.notes ≡ length content.notes
   pub lost_are : r.lost ≡ length content.lost
   pub bytes_are : r.bytes ≡ length (spelling content)
