@@ -37,6 +37,7 @@ impl<'c> Proc for CProc<'c> {
         self.look
     }
 
+    #[inline(always)]
     fn step(&mut self, alloc: Global) -> Result<(Kind, Option<Letter>), WantOfMemory> {
         let machine = &mut *self.machine;
         machine.reserve_output(alloc)?;
@@ -47,6 +48,7 @@ impl<'c> Proc for CProc<'c> {
         Ok((kind, letter))
     }
 
+    #[inline(always)]
     fn give(&mut self, letter: Letter) -> Kind {
         let machine = &mut *self.machine;
         let kind = machine.accept(letter);

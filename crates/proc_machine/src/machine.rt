@@ -163,6 +163,7 @@ impl<'c> Machine<'c> {
     /// Makes the event before which it stands, and runs on to the next; a Sent comes with its
     /// letter. Conditions: it stands before no receive and isn't done, 4,096 bytes of output are
     /// spare, and it sent fewer than 4,294,967,295 letters.
+    #[inline(always)]
     pub fn advance(&mut self) -> (Kind, Option<Letter>)
         requires moves { IsTrue (goes_by_itself (next_of self.old)) }
         requires spare { 4096 ≤ spare_output self.old }

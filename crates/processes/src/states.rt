@@ -110,6 +110,7 @@ impl<P: Proc> Seat<P> {
 impl<P: Proc> Able<P> {
     /// Makes the next event. Where memory is refused the process comes back and stands for the same.
     /// It needs a count below 1,000,000.
+    #[inline(always)]
     pub fn step(self, alloc: Global) -> Stepped<P>
         requires { P.count_of self < MAX_EVENTS }
         ensures next { IfMoved result (λ p kind letter. Makes (P.stands_for self) (P.stands_for p) kind) }
@@ -147,6 +148,7 @@ impl<P: Proc> Waiting<P> {
     }
 
     /// Accepts a letter on a channel of the set. It needs a count below 1,000,000.
+    #[inline(always)]
     pub fn give(self, letter: Letter) -> (Seat<P>, Kind)
         requires channel { CanTake (P.look_of self) letter }
         requires room { P.count_of self < MAX_EVENTS }

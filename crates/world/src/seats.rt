@@ -62,6 +62,7 @@ impl<P: Proc> Seats<P> {
 
     /// Makes the next event of the process at the place. Its seat is moved out for that, and the
     /// last one stands in for it: no other seat is moved.
+    #[inline(always)]
     pub(crate) fn step(
         &mut self,
         alloc: Global,
@@ -81,6 +82,7 @@ impl<P: Proc> Seats<P> {
     }
 
     /// The process at the place accepts the letter.
+    #[inline(always)]
     pub(crate) fn give(&mut self, i: usize, letter: Letter) -> Kind
         requires place { i < length self.old }
         requires waiting { (x : P) → slice_get self.old i ≡ Some x → CanTake (P.look_of x) letter }
@@ -116,6 +118,7 @@ fn copies<P: Proc>(alloc: Global, seats: &[Seat<P>]) -> Result<Vec<Seat<P>>, Wan
 
 /// Puts a seat back at the place where one was taken out, and the one that stood in for it back to
 /// the end.
+#[inline(always)]
 fn put_back<P: Proc>(seats: &mut Vec<Seat<P>>, i: usize, seat: Seat<P>)
     requires place { i ≤ vec_len seats.old }
     requires room { vec_len seats.old < vec_capacity seats.old }
@@ -129,6 +132,7 @@ fn put_back<P: Proc>(seats: &mut Vec<Seat<P>>, i: usize, seat: Seat<P>)
 }
 
 /// The seat after the next event of its process, with the event and its letter.
+#[inline(always)]
 fn step_seat<P: Proc>(
     seat: Seat<P>,
     alloc: Global,
@@ -154,6 +158,7 @@ fn step_seat<P: Proc>(
 }
 
 /// The seat after its process accepted the letter, and this event.
+#[inline(always)]
 fn give_seat<P: Proc>(seat: Seat<P>, letter: Letter) -> (Seat<P>, Kind)
     requires waiting { CanTake (P.look_of (process_in seat)) letter }
     requires room { P.count_of (process_in seat) < MAX_EVENTS }

@@ -120,6 +120,7 @@ impl<P: Proc, M: Mail> World<P, M> {
     /// One turn, of the process and with the pick that it names: at most one event. It needs that
     /// fewer than 1,000,000 events happened, or that the gate lets the process go no further. Where
     /// memory is refused no event happened, and the world stands for the same run.
+    #[inline(always)]
     pub fn turn<G: Gate>(
         &mut self,
         alloc: Global,
@@ -250,6 +251,7 @@ impl<P: Proc, M: Mail> World<P, M> {
     }
 
     /// A process that is able makes its next event.
+    #[inline(always)]
     fn make(&mut self, alloc: Global, p: ProcNo) -> Result<Turned, WantOfMemory>
         requires process { p.no < length self.old.processes }
         requires able { (x : P) → slice_get self.old.processes p.no ≡ Some x → P.look_of x ≡ Look.Able }
@@ -264,7 +266,7 @@ impl<P: Proc, M: Mail> World<P, M> {
         self.mail.reserve(alloc)?;
         let (kind, letter) = self.seats.step(alloc, p.no as usize)?;
         self.clocks.tick(p);
-        let stamp = *self.clocks.stamp(p);
+        let stamp = self.clocks.stamp(p);
         let (letter, sent) = post(&mut self.mail, alloc, letter, self.sent, stamp);
         self.sent = sent;
         self.events += 1;
@@ -277,6 +279,7 @@ impl<P: Proc, M: Mail> World<P, M> {
     }
 
     /// A process that wants a letter accepts the one that the pick names, if any is allowed.
+    #[inline(always)]
     fn accept<G: Gate>(&mut self, t: Turn, set: u32, gate: &G) -> Turned
         requires process { t.proc.no < length self.old.processes }
         requires waiting { (x : P) → slice_get self.old.processes t.proc.no ≡ Some x → P.look_of x ≡ Look.Waiting set }
@@ -335,14 +338,14 @@ fn post<M: Mail>(
     alloc: Global,
     letter: Option<Letter>,
     sent: u32,
-    stamp: Stamp,
+    stamp: &Stamp,
 ) -> (Option<Letter>, u32)
     requires room { 0 < M.spare mail.old }
     requires last { (w : Letter) → Contains (M.letters mail.old) w → w.posted < sent }
     requires few { sent < MAX_EVENTS }
     requires unnamed { (l : Letter) → letter ≡ Some l → (w : Letter) → Contains (M.letters mail.old) w
         → is_named l.id w ≡ false }
-    ensures letter { result.0 ≡ option_map (stamped sent stamp) letter }
+    ensures letter { result.0 ≡ option_map (stamped sent stamp.now) letter }
     ensures posted { M.letters mail.new ≡ M.letters mail.old ++ option_to_list result.0 }
     ensures order { M.ordered mail.new ≡ M.ordered mail.old }
     ensures sent { result.1 ≡ sent + length (option_to_list letter) }
@@ -352,7 +355,7 @@ fn post<M: Mail>(
         Some(letter) => {
             let posted = Letter {
                 posted: sent,
-                stamp,
+                stamp: *stamp,
                 ..letter
             };
             match mail.post(alloc, posted) {
