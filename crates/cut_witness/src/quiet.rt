@@ -169,7 +169,9 @@ fn is_low(
     id: LetterId,
     post: &Post,
 ) -> bool
-    ensures { result ≡ true → IsLow mask (part_of last.now) (get same_lane lanes.now) id post.now }
+    ensures low { result ≡ true → IsLow mask (part_of last.now) (get same_lane lanes.now) id post.now }
+    ensures all { IsLow mask (part_of last.now) (get same_lane lanes.now) id post.now → post.now.dest.no < 32
+        → result ≡ true }
 {
     if post.dest.no >= 32 || post.chan >= 32 {
         return false;
@@ -183,8 +185,10 @@ fn is_low(
 fn is_at_most(last: &Clocks, post: &Post, number: u32) -> bool
     requires process { post.now.dest.no < 32 }
     requires channel { post.now.chan < 32 }
-    ensures { result ≡ true → part_of last.now post.now.dest.no post.now.chan
+    ensures low { result ≡ true → part_of last.now post.now.dest.no post.now.chan
         ≤ max (part post.now.past post.now.dest.no) number }
+    ensures all { part_of last.now post.now.dest.no post.now.chan
+        ≤ max (part post.now.past post.now.dest.no) number → result ≡ true }
 {
     let limit = post.past.parts[post.dest.no as usize].max(number);
     last.stamp(post.dest).parts[post.chan as usize] <= limit

@@ -1,7 +1,7 @@
 -- Worlds that are kept, and going back to the first events of a run.
 use Rattle.std.proofs.Common.{◌≡◌, ℕ, zero, suc, ◌-◌, ◌≤◌, Bool, true, false, List, [], ◌∷◌, length, take, drop, Option, Some, None, refl, sym, ap, ◌∙◌, subst, arith}
 use Rattle.nm_base.specs.declared.memory.WantOfMemory.{WantOfMemory}
-use Rattle.std.specs.Prelude.{Result, Ok, Err, OnOk, OnErr, ⊤, replicate, All, map, slice_get, slice_index_or, option_map, nat_le, cond}
+use Rattle.std.specs.Prelude.{Result, Ok, Err, IfOk, OnOk, OnErr, ⊤, replicate, All, map, slice_get, slice_index_or, option_map, nat_le, cond}
 use Rattle.std.proofs.lemmas.Bool.{leb-true}
 use Rattle.std.proofs.lemmas.List.{take-append-drop, length-map, length-take-le}
 use Rattle.std.proofs.lemmas.List.Elements.{All-filter}
@@ -35,6 +35,7 @@ use Rattle.trace_file.specs.Rules.{IsTrace}
 use Rattle.debugger.specs.Sessions.{Session, first_session}
 use Rattle.debugger.specs.Sittings.{Sitting, AllRun, IsReplayAt, IsKept, IsSessionOf, IsSomeSession}
 use Rattle.debugger.specs.private.Making.{with_run}
+use Rattle.debugger.specs.private.Moving.{events_in}
 
 -- ---- lists
 
@@ -393,6 +394,40 @@ kept_few k kept left is = subst (λ ws. All (λ w. w.events ≤ k) ws) (sym is) 
 pub on_ok : {T E A : Type 0} (r : Result T E) → A → OnOk r A
 on_ok (Ok x) a = a
 on_ok (Err e) a = tt
+
+-- a copy has as many events as the world that it is of
+pub many_copied : {M : Type 0} (x v : Sitting M) → x ≡ v → (k : ℕ) (o : Option (Parts CProc M)) (w : Parts CProc M)
+    → o ≡ Some w
+    → IsCopyOf process.stands_for-value.it process.origin_of-value.it (last (up_to k x.kept)) o
+    → w.events ≡ events_in (last (up_to k v.kept))
+many_copied {M = M} x v view k o w is copy =
+    subst (λ y. w.events ≡ events_in (last (up_to k y.kept))) view
+    (by (last (up_to k x.kept))
+    (subst (λ u. IsCopyOf process.stands_for-value.it process.origin_of-value.it (last (up_to k x.kept)) u) is copy))
+  where
+    by : (kept : Option (Parts CProc M))
+        → IsCopyOf process.stands_for-value.it process.origin_of-value.it kept (Some w) → w.events ≡ events_in kept
+    by (Some v) copy = copy.events
+    by None copy = absurd copy
+
+-- the world before the first event has as many as one that there isn't
+pub none_copied : {E M : Type 0} (x v : Sitting M) → x ≡ v → (k : ℕ) (o : Option (Parts CProc M))
+    (r : Result (Parts CProc M) E) → o ≡ None
+    → IsCopyOf process.stands_for-value.it process.origin_of-value.it (last (up_to k x.kept)) o
+    → IfOk r (λ w. w.events ≡ 0) → IfOk r (λ w. w.events ≡ events_in (last (up_to k v.kept)))
+none_copied {M = M} x v view k o r is copy h =
+    subst (λ y. IfOk r (λ w. w.events ≡ events_in (last (up_to k y.kept)))) view
+    (subst (λ m. IfOk r (λ w. w.events ≡ m)) (sym none) h)
+  where
+    by : (kept : Option (Parts CProc M))
+        → IsCopyOf process.stands_for-value.it process.origin_of-value.it kept None → events_in kept ≡ 0
+    by None copy = refl
+    by (Some v) copy = absurd copy
+
+    none : events_in (last (up_to k x.kept)) ≡ 0
+    none =
+        by (last (up_to k x.kept))
+        (subst (λ u. IsCopyOf process.stands_for-value.it process.origin_of-value.it (last (up_to k x.kept)) u) is copy)
 
 pub few_copied : {M : Type 0} (k : ℕ) (kept : List (Parts CProc M)) (o : Option (Parts CProc M)) (w : Parts CProc M)
     → o ≡ Some w

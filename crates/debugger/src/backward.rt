@@ -7,6 +7,7 @@ ghost use Rattle.event_list.specs.declared.Event.{Event};
 ghost use Rattle.event_list.specs.Runs.{Sound};
 ghost use Rattle.event_list.specs.Cuts.{IsLeastCut, IsGreatestCut};
 ghost use Rattle.causal_stop.specs.Stops.{HasEntry, Holds, IsEntry, Lacks, StandsIn, cut_of};
+ghost use Rattle.checkpoints.specs.Kept.{last, up_to};
 ghost use Rattle.stack_code.specs.Code.{Code as CodeSeen};
 ghost use Rattle.trace_file.specs.Content.{Content};
 ghost use Rattle.replay_core.specs.Gates.{seen_trace};
@@ -18,7 +19,7 @@ ghost use Rattle.debugger.specs.Sessions.{Session as Defined, is_recorded, order
 ghost use Rattle.debugger.specs.Sittings.{HasReplied, IsKept, IsReplayAt, IsSameSitting, IsSessionOf, Replies};
 ghost use Rattle.debugger.specs.Faults.{is_write};
 ghost use Rattle.debugger.specs.private.Making.{with_run};
-ghost use Rattle.debugger.specs.private.Moving.{CanGoTo, HasMade, HasMoved, IsCutOfFull, IsFinished, IsNextOf, moved_text};
+ghost use Rattle.debugger.specs.private.Moving.{CanGoTo, HasMade, HasMoved, IsCutOfFull, IsFinished, IsNextOf, events_in, moved_text};
 
 use crate::beginning::new_replay;
 use crate::fault::SessionFault;
@@ -106,8 +107,8 @@ fn go_back<'c, M: Mail>(
     session.replay.go_back(alloc, from, to)
 }
 
-// A world after some of the first `to` events of the run: a copy of a kept one, or one before the first
-// event. Kept worlds of more events are dropped.
+// A world after some of the first `to` events of the run: a copy of the last kept one that has no more, or one
+// before the first event. Kept worlds of more events are dropped.
 fn world_before<'c, M: Mail>(
     session: &mut Session<'c, M>,
     alloc: Global,
@@ -116,6 +117,7 @@ fn world_before<'c, M: Mail>(
     ensures world { IfOk result (λ w. (p : Program) (s : Defined) → IsSessionOf session.new p s
         → IsKept session.new.code p session.new.trace s.run w) }
     ensures reached { IfOk result (λ w. w.events ≤ to) }
+    ensures nearest { IfOk result (λ w. w.events ≡ events_in (last (up_to to session.old.kept))) }
     ensures kept { OnOk result (All (λ w. w.events ≤ to) session.new.kept) }
     ensures still { (p : Program) (s : Defined) → IsSessionOf session.old p s → IsSessionOf session.new p s }
     ensures replay { session.new.replay ≡ session.old.replay }

@@ -15,6 +15,7 @@ ghost use Rattle.event_list.specs.Traces.{IsLoggedName};
 ghost use Rattle.trace_file.specs.Bytes.{spelling};
 ghost use Rattle.trace_file.specs.Content.{Content};
 ghost use Rattle.trace_file.specs.Rules.{IsTrace};
+ghost use Rattle.cut_witness.specs.Certificates.{IsCertificate};
 ghost use Rattle.cut_witness.specs.Comparisons.{HasEntries};
 ghost use Rattle.report.specs.Printing.{Prints};
 ghost use Rattle.report.specs.Runs.{RunsProgram, summary_of};
@@ -34,7 +35,7 @@ use crate::status::Status;
 use crate::stop::Stop;
 use crate::tell::tell;
 use c_process::{CProc, seats_of};
-use cut_witness::witness;
+use cut_witness::{Witness, witness};
 use event_list::EventList;
 use mailboxes::OrderedMail;
 use nm_base::{AcceptNote, LetterId, WantOfMemory};
@@ -172,47 +173,56 @@ fn certify_one(
     events: &EventList,
     mask: u32,
     id: LetterId,
-) -> Result<(), WantOfMemory>
+) -> Result<Witness, WantOfMemory>
     requires sound { (p : Program) × (n : ℕ) × IsRun (script_of p n) mask events.now.events }
     requires logged { IsLoggedName mask events.now.events id }
+    ensures { IfOk result (λ w. (w.id ≡ id) × IsCertificate mask events.now.events w) }
 {
     let found = witness(alloc, events, mask, id)?;
-    let Some(_) = found else {
+    let Some(w) = found else {
         unreachable!();
     };
-    Ok(())
+    Ok(w)
 }
 
-// Makes the certificates of the letters that were received.
+// Makes the certificates of the letters that were received, and answers their number.
 fn certify_noted(
     alloc: Global,
     events: &EventList,
     mask: u32,
     notes: &[AcceptNote],
-) -> Result<(), WantOfMemory>
+) -> Result<u32, WantOfMemory>
     requires sound { (p : Program) × (n : ℕ) × IsRun (script_of p n) mask events.now.events }
     requires logged { (note : AcceptNote) → Contains notes.now note → IsLoggedName mask events.now.events note.id }
+    requires few { length notes.now ≤ MAX_TRACE_BYTES }
+    ensures { IfOk result (λ made. made ≡ length notes.now) }
 {
+    let mut made = 0;
     for note in notes {
-        certify_one(alloc, events, mask, note.id)?;
+        let _w = certify_one(alloc, events, mask, note.id)?;
+        made += 1;
     }
-    Ok(())
+    Ok(made)
 }
 
-// Makes those of the letters that were never received.
+// Makes those of the letters that were never received, and answers their number.
 fn certify_lost(
     alloc: Global,
     events: &EventList,
     mask: u32,
     lost: &[LetterId],
-) -> Result<(), WantOfMemory>
+) -> Result<u32, WantOfMemory>
     requires sound { (p : Program) × (n : ℕ) × IsRun (script_of p n) mask events.now.events }
     requires logged { (id : LetterId) → Contains lost.now id → IsLoggedName mask events.now.events id }
+    requires few { length lost.now ≤ MAX_TRACE_BYTES }
+    ensures { IfOk result (λ made. made ≡ length lost.now) }
 {
+    let mut made = 0;
     for id in lost {
-        certify_one(alloc, events, mask, *id)?;
+        let _w = certify_one(alloc, events, mask, *id)?;
+        made += 1;
     }
-    Ok(())
+    Ok(made)
 }
 
 // Makes a certificate for each letter that the trace names, and tells their number.
@@ -229,14 +239,14 @@ fn tell_certificates<O: Sink>(
         (O.given out.new) (O.faults out.old) (O.faults out.new) result }
 {
     let notes = trace.notes();
-    let lost = trace.lost();
-    if certify_noted(alloc, events, trace.mask(), notes).is_err() {
+    let names = trace.lost();
+    let Ok(noted) = certify_noted(alloc, events, trace.mask(), notes) else {
         return Status::WantOfMemory;
-    }
-    if certify_lost(alloc, events, trace.mask(), lost).is_err() {
+    };
+    let Ok(lost) = certify_lost(alloc, events, trace.mask(), names) else {
         return Status::WantOfMemory;
-    }
-    match certificates_line(out, (notes.len() + lost.len()) as u32) {
+    };
+    match certificates_line(out, noted + lost) {
         Ok(()) => Status::Done,
         Err(_) => Status::WriteFault,
     }

@@ -104,6 +104,7 @@ fn counts_of<P: Proc, M: Mail>(world: &World<P, M>) -> [u32; 32]
     requires { length world.now.processes ≤ MAX_PROCESSES }
     ensures counts { (s : ℕ → Script) (E : List Event) → IsWorldOf P.stands_for world.now s E
         → (p : ℕ) → p < length world.now.processes → slice_index result p ≡ count E p }
+    ensures rest { (p : ℕ) → length world.now.processes ≤ p → slice_index result p ≡ 0 }
     ensures size { length result ≡ 32 }
 {
     let mut counts = [0; 32];

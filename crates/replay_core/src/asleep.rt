@@ -1,6 +1,7 @@
 //! The processes that are known to have idle turns only.
 
-ghost use Rattle.std.specs.Prelude.{◌≡◌, ℕ, true, false, get_or};
+ghost use Rattle.std.specs.Prelude.{◌≡◌, ◌<◌, ℕ, true, false, get_or};
+ghost use Rattle.event_list.specs.Turns.{Idle, Stays};
 ghost use Rattle.world.specs.Outcomes.{outcome};
 ghost use Rattle.replay_core.specs.private.Sleeping.{IsMarked, IsUnmoved, StaysAsleep};
 
@@ -34,8 +35,11 @@ impl Asleep {
 
     /// Takes in what a turn of the process did.
     pub fn note(&mut self, p: ProcNo, turned: &Turned)
-        ensures { (q : ℕ) → get_or self.new.marks q false ≡ true
+        ensures stays { (q : ℕ) → get_or self.new.marks q false ≡ true
             → StaysAsleep self.old.marks p.no (outcome turned.now) q }
+        // An idle turn puts its process to sleep.
+        ensures sleeps { (why : Idle) → outcome turned.now ≡ Stays why → p.no < 32
+            → get_or self.new.marks p.no false ≡ true }
     {
         match turned {
             Turned::Idle(_) => self.mark(p, true),
@@ -55,7 +59,8 @@ impl Asleep {
 
     /// Marks the process, or takes its mark away.
     fn mark(&mut self, p: ProcNo, asleep: bool)
-        ensures { (q : ℕ) → get_or self.new.marks q false ≡ true → IsMarked self.old.marks p.no asleep q }
+        ensures others { (q : ℕ) → get_or self.new.marks q false ≡ true → IsMarked self.old.marks p.no asleep q }
+        ensures marked { p.no < 32 → get_or self.new.marks p.no false ≡ asleep }
     {
         let place = p.no as usize;
         if place < 32 {

@@ -1,6 +1,6 @@
 //! Where the round robin stands.
 
-ghost use Rattle.std.specs.Prelude.{◌≡◌, ◌+◌, ◌^◌, ◌<◌, ◌≤◌, true, List};
+ghost use Rattle.std.specs.Prelude.{◌≡◌, ◌+◌, ◌^◌, ◌<◌, ◌≤◌, true, false, List};
 ghost use Rattle.event_list.specs.declared.Event.{Event};
 ghost use Rattle.event_list.specs.Traces.{Trace};
 ghost use Rattle.event_list.specs.Turns.{Idle, Stays, Finishing, next_of, finish_by, to_finish};
@@ -102,7 +102,9 @@ impl Round {
         requires idle { self.now.idle ≤ self.now.turns }
         requires few { self.now.turns < most }
         requires sleeps { has_mark asleep.now.marks self.now.next ≡ true }
-        ensures { HasSlept self.now result asleep.now.marks n most }
+        ensures slept { HasSlept self.now result asleep.now.marks n most }
+        // It ends at the first that isn't asleep.
+        ensures awake { result.turns < most → result.idle_now < n → has_mark asleep.now.marks result.next ≡ false }
     {
         let mut round = self.idled(n);
         while round.turns < most && round.idle_now < n && asleep.has(round.next) {

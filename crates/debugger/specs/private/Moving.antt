@@ -8,6 +8,7 @@ use Rattle.event_list.specs.Cuts.{cut_list}
 use Rattle.event_list.specs.Order.{Cut, IsConsistent}
 use Rattle.event_list.specs.Turns.{Went, all_reached}
 use Rattle.trace_file.specs.Content.{Content}
+use Rattle.world.specs.Worlds.{Parts}
 use Rattle.replay_core.specs.Gates.{seen_trace}
 use Rattle.replay_core.specs.Replaying.{Replaying}
 use Rattle.replay_core.specs.Stepping.{turned_by, full_run}
@@ -65,3 +66,8 @@ pub record HasMoved {M : Type 0} (p : Program) (s : Session) (before : List Watc
   pub stands : IsSessionOf new p next
   pub makes : MakesAll p (seen_trace new.trace) (cut_list c events) (with_run s []) before next after
   pub run : next.run ≡ cut_list c events
+
+-- how many events a kept world has, and none where there is no world
+abbrev pub events_in : {M : Type 0} → Option (Parts CProc M) → ℕ
+events_in None = 0
+events_in (Some w) = w.events

@@ -1,4 +1,4 @@
-use Rattle.debugger.proofs.GoingBack.{all_fewer, few_copied, kept_few, new_copied, on_ok, some_fewer, some_left}
+use Rattle.debugger.proofs.GoingBack.{all_fewer, few_copied, kept_few, many_copied, new_copied, none_copied, on_ok, some_fewer, some_left}
 use Rattle.debugger.proofs.backward.world_before.Goals as goal
 
 pub invariant_of-session : goal.invariant_of-session
@@ -23,6 +23,10 @@ returns-in-Some-clause-reached g c =
     few_copied c.args.to c.session.inside.kept c.in_ok-world.field-0 c.in-Some.world c.in-Some.is
     c.in_ok-world.ensures.copy
 
+pub returns-in-Some-clause-nearest : goal.returns-in-Some-clause-nearest
+returns-in-Some-clause-nearest g c =
+    many_copied _ _ c.session.view_is c.args.to c.in_ok-world.field-0 c.in-Some.world c.in-Some.is c.in_ok-world.ensures.copy
+
 pub returns-in-Some-clause-kept : goal.returns-in-Some-clause-kept
 returns-in-Some-clause-kept g c =
     kept_few c.args.to c.session.inside.kept c.back_to.new.self c.in_ok-world.ensures.dropped
@@ -30,6 +34,10 @@ returns-in-Some-clause-kept g c =
 pub returns-in-Some-clause-still : goal.returns-in-Some-clause-still
 returns-in-Some-clause-still g c =
     all_fewer _ _ c.session.view_is c.args.to c.back_to.new.self c.in_ok-world.ensures.dropped
+
+pub returns-in-None-clause-nearest : goal.returns-in-None-clause-nearest
+returns-in-None-clause-nearest g c =
+    none_copied _ _ c.session.view_is c.args.to c.in_ok-world.field-0 c.first_world.result c.in-None.is c.in_ok-world.ensures.copy c.first_world.ensures.none
 
 pub returns-in-None-clause-kept : goal.returns-in-None-clause-kept
 returns-in-None-clause-kept g c =

@@ -11,7 +11,7 @@ loop-round-init g c =
 pub loop-round-preserved-then-has : goal.loop-round-preserved-then-has
 loop-round-preserved-then-has g c =
     slept_round g.P.Proc.stands_for g.P.Proc.origin_of c.args.replay.now c.enough_turns-most.result c.loop-round.replay c.loop-round.round c.loop-round.asleep.marks c.loop-round.invariant
-    (λ s T R h. sym c.if-is_over.false ∙ c.is_over.ensures.is s T R h) c.after_sleepers-round.result c.n-n.result c.n-n.ensures.n c.after_sleepers-round.ensures
+    (λ s T R h. sym c.if-is_over.false ∙ c.is_over.ensures.is s T R h) c.after_sleepers-round.result c.n-n.result c.n-n.ensures.n c.after_sleepers-round.ensures.slept
 
 pub loop-round-preserved : goal.loop-round-preserved
 loop-round-preserved g c =
@@ -21,7 +21,7 @@ loop-round-preserved g c =
     (λ s T R h. sym c.if-is_over.false ∙ c.is_over.ensures.is s T R h)
     _ c.after-round.result c.note.new.self.marks _ c.in_ok-turned.turned c.n-n.result
     c.next_turn-t.ensures.proc c.next_turn-t.ensures.pick k.gone k.same c.n-n.ensures.n n.is n.next n.turns n.idle (omega (arith, c.loop-round-test.true))
-    (sym c.has.ensures ∙ c.if-has.false) c.note.ensures
+    (sym c.has.ensures ∙ c.if-has.false) c.note.ensures.stays
 
 pub returns-then-is_over-clause-rounded : goal.returns-then-is_over-clause-rounded
 returns-then-is_over-clause-rounded g c =
